@@ -33,7 +33,7 @@ module _ (eval : ℕ → Links → Value) where
   links-stay {v = v} done h = Grows·refl v
   links-stay {m} {P} {v} (more (move t x a o) R) h = Grows·trans (Grows·after t (falsifies m) P x v h) (links-stay R (Valid·after t (falsifies m) P x v h))
 
-  module _ (mono : Monotone eval) where
+  module _ (mono : (c : ℕ) → Monotone (eval c)) where
     module _ {P : Process} {v : Links} {Q : Process} {w : Links} (h : Pair eval P v Q w) (m : Mode) where
       same-name : (y : Place Q) → step (row P (lift eval (h .shed) y)) (here P (lift eval (h .shed) y)) ≡ step (row Q y) (here Q y)
       same-name y = ap₂ step (lift-row eval (h .shed) y) (lift-here eval (h .shed) y)

@@ -74,7 +74,7 @@ module _ (eval : ℕ → Links → Value) where
   Shed·sets (s-cut o) k e = refl
   Shed·sets (s-sides s t) k e = false-or (Shed·sets s k (or-false e .0)) (Shed·sets t k (or-false e .1))
 
-  Shed·grows : Monotone eval → {v w : Links} → Grows v w → {P Q : Process} → Shed v P Q → Shed w P Q
+  Shed·grows : ((c : ℕ) → Monotone (eval c)) → {v w : Links} → Grows v w → {P Q : Process} → Shed v P Q → Shed w P Q
   Shed·grows m g s-nil = s-nil
   Shed·grows m g s-same = s-same
   Shed·grows m g (s-cut {c = c} e) = s-cut (stays-false eval m g c e)
@@ -172,7 +172,7 @@ module _ (eval : ℕ → Links → Value) where
   pub Pair·refl : (P : Process) (v : Links) → Valid P v → Passes eval P → Pair P v P v
   Pair·refl P v h p = record { shed = Shed·refl v P; less = ⊑·refl v; plain-valid = h; other-valid = h; passes = p }
 
-  module _ (mono : Monotone eval) (d : Bool) {P : Process} {v : Links} {Q : Process} {w : Links} (h : Pair P v Q w) where
+  module _ (mono : (c : ℕ) → Monotone (eval c)) (d : Bool) {P : Process} {v : Links} {Q : Process} {w : Links} (h : Pair P v Q w) where
     -- both take the step at one place
     pub Pair·takes : (y : Place Q) → Pair (after takes P (lift (h .shed) y)) (put-on (effect takes false P (lift (h .shed) y)) v) (after takes Q y) (put-on (effect takes d Q y) w)
     Pair·takes y =

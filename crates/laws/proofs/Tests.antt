@@ -31,6 +31,11 @@ pub cond-all : {A : Type 0} (C : A → Type 0) (b : Bool) {x y : A} → C x → 
 cond-all C true p q = p
 cond-all C false p q = q
 
+-- the first side is asked only where the test holds
+pub cond-same : {A : Type 0} (b : Bool) {x y : A} (d : A) → (b ≡ true → x ≡ y) → cond b x d ≡ cond b y d
+cond-same true d h = h refl
+cond-same false d h = refl
+
 pub or-false : {a b : Bool} → or a b ≡ false → (a ≡ false) × (b ≡ false)
 unfolding or
 or-false {a = true} e = absurd (true≢false e)

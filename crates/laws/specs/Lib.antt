@@ -1,1 +1,6 @@
 pub mod Tests
+pub mod Down
+pub mod Up
+pub mod Lowest
+pub mod Listed
+pub mod Checks

@@ -1,0 +1,3 @@
+pub mod Operators
+pub mod Conditions
+pub mod Numbers
