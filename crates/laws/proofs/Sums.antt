@@ -1,0 +1,47 @@
+-- The laws of sums and counts. Assumes nothing.
+use Prim.Native.Nat.{ℕ, zero, suc, _+_, _<_, _≤_}
+use mathlib.Core.Path.{_≡_, refl, sym, _∙_, ap}
+use mathlib.Core.Bool.{Bool, true, false, cond}
+use mathlib.Core.Logic.{_⊎_, inl, inr, ⊎-elim, by-cases}
+use native.Mathlib.Omega.{arith}
+use native.Mathlib.Numerals.{add-one}
+use native.Mathlib.Decide.{ℕ-discrete}
+use lib.Dec.{eqb}
+use borrow.Author.Tests.{eq-eqb, ne-eqb}
+use Rattle.laws.specs.Tests.{or}
+use Rattle.laws.specs.Sums.{sum, count}
+use Rattle.laws.proofs.Tests.{cases, not-both, or-l, or-r}
+
+pub sum-more : (f : ℕ → ℕ) (n : ℕ) → sum f (n + 1) ≡ sum f n + f n
+unfolding sum
+sum-more f n = rw add-one
+
+-- each part of a sum is in it, and two different parts are
+pub sum-has : (f : ℕ → ℕ) (n i : ℕ) → i < n → f i ≤ sum f n
+unfolding sum
+sum-has f zero i h = absurd (omega arith)
+sum-has f (suc n) i h = by-cases (ℕ-discrete i n) (λ (e : i ≡ n). rw e (omega arith)) (λ e. omega (arith, sum-has f n i (omega arith)))
+
+pub sum-two : (f : ℕ → ℕ) (n i j : ℕ) → i < n → j < n → (i ≡ j → ⊥) → f i + f j ≤ sum f n
+unfolding sum
+sum-two f zero i j h k d = absurd (omega arith)
+sum-two f (suc n) i j h k d =
+    by-cases (ℕ-discrete i n)
+    (λ (e : i ≡ n). rw e (omega (arith, sum-has f n j (omega arith))))
+    (λ e. by-cases (ℕ-discrete j n) (λ (q : j ≡ n). rw q (omega (arith, sum-has f n i (omega arith)))) (λ q. omega (arith, sum-two f n i j (omega arith) (omega arith) d)))
+
+-- two counts of different numbers are together no more than one count of both
+pub count-apart : (p q r : ℕ → Bool) (n : ℕ) → ((i : ℕ) → i < n → p i ≡ true → (q i ≡ false) × (r i ≡ true)) → ((i : ℕ) → i < n → q i ≡ true → r i ≡ true) → count p n + count q n ≤ count r n
+unfolding count sum
+count-apart p q r zero f g = omega arith
+count-apart p q r (suc n) f g =
+    let h = count-apart p q r n (λ i l. f i (omega arith)) (λ i l. g i (omega arith)) in
+    ⊎-elim
+    (λ (e : p n ≡ true). let (a, b) = f n (omega arith) e in rw (e, a, b) (omega arith))
+    (λ (e : p n ≡ false). ⊎-elim (λ (k : q n ≡ true). rw (e, k, g n (omega arith) k) (omega arith)) (λ (k : q n ≡ false). rw (e, k) (omega arith)) (cases (q n)))
+    (cases (p n))
+
+-- one number is counted once
+pub count-one : (p : ℕ → Bool) (n i : ℕ) → i < n → p i ≡ true → 1 ≤ count p n
+unfolding count
+count-one p n i h e = let z : cond (p i) 1 0 ≤ sum (λ i. cond (p i) 1 0) n = sum-has (λ i. cond (p i) 1 0) n i h in rw e at z

@@ -1,0 +1,75 @@
+-- The parent of a row: found where some row names it, and the one row that does. Assumes nothing.
+use Prim.Native.Nat.{ℕ, zero, suc, _+_, _<_, _≤_}
+use mathlib.Core.Path.{_≡_, refl, sym, ap, _∙_, subst}
+use mathlib.Core.Bool.{Bool, true, false, not}
+use mathlib.Core.Logic.{_⊎_, inl, inr, ⊎-elim}
+use native.Mathlib.Omega.{arith}
+use lib.Dec.{eqb}
+use borrow.Author.Tests.{eqb-true, eq-eqb}
+use Rattle.laws.specs.Tests.{or}
+use Rattle.laws.specs.Lowest.{lowest}
+use Rattle.laws.proofs.Tests.{cases, not-both, or-true, or-l, or-r}
+use Rattle.laws.proofs.Lowest.{lowest-at, lowest-found}
+use Rattle.steps.specs.Rows.{Row, NIL, PREFIX, BRANCH, Kids, Child, Once}
+use Rattle.steps.specs.InFront.{firstOf, secondOf, names, parentOf, rightOf}
+use Rattle.steps.proofs.Tree.{child-above}
+
+-- children by number
+pub childAt : Row → Bool → ℕ
+childAt N false = firstOf N
+childAt N true = secondOf N
+
+pub child-number : (N : Row) (s : Bool) (j : ℕ) → Child N s j → childAt N s ≡ j
+unfolding Child childAt firstOf secondOf
+child-number NIL s j c = absurd c
+child-number (PREFIX π d) false j c = c
+child-number (PREFIX π d) true j c = absurd c
+child-number (BRANCH κ a b) false j c = c
+child-number (BRANCH κ a b) true j c = c
+
+pub number-child : (N : Row) (s : Bool) (j : ℕ) → 0 < j → childAt N s ≡ j → Child N s j
+unfolding Child childAt firstOf secondOf
+number-child NIL false j h c = absurd (let z : ⊥ = omega arith in z)
+number-child NIL true j h c = absurd (let z : ⊥ = omega arith in z)
+number-child (PREFIX π d) false j h c = c
+number-child (PREFIX π d) true j h c = absurd (let z : ⊥ = omega arith in z)
+number-child (BRANCH κ a b) false j h c = c
+number-child (BRANCH κ a b) true j h c = c
+
+child-names : (N : Row) (s : Bool) (j : ℕ) → childAt N s ≡ j → names N j ≡ true
+unfolding names childAt
+child-names N false j c = or-l _ (eq-eqb _ _ c)
+child-names N true j c = or-r _ (eq-eqb _ _ c)
+
+-- a row that names another, and whether it does so on the right
+names-child : (N : Row) (j : ℕ) → names N j ≡ true → childAt N (eqb (secondOf N) j) ≡ j
+unfolding names childAt
+names-child N j e = at (eqb (secondOf N) j) refl
+  where
+    at : (b : Bool) → eqb (secondOf N) j ≡ b → childAt N b ≡ j
+    at true p = eqb-true _ _ p
+    at false p = eqb-true _ _ (⊎-elim (λ q. q) (λ q. absurd (not-both q p)) (or-true e))
+
+not-is : (b : Bool) → not b ≡ false → b ≡ true
+not-is true e = refl
+not-is false e = sym e
+
+module _ (node : ℕ → Row) where
+  -- a parent that is found names the row
+  pub parent-child : (j : ℕ) → parentOf node j < j → Child (node (parentOf node j)) (rightOf node j) j
+  unfolding parentOf rightOf
+  parent-child j h =
+      let p : ℕ = parentOf node j in
+      number-child (node p) (eqb (secondOf (node p)) j) j (omega arith) (names-child (node p) j (not-is _ (lowest-at (λ p. not (names (node p) j)) 0 j (omega (arith, h)))))
+
+  named-found : (i j : ℕ) (s : Bool) → i < j → Child (node i) s j → parentOf node j < j
+  unfolding parentOf
+  named-found i j s a c = let z : lowest (λ p. not (names (node p) j)) 0 j < 0 + j = lowest-found (λ p. not (names (node p) j)) 0 j i (omega arith) (omega arith) (ap not (child-names (node i) s j (child-number (node i) s j c))) in omega arith
+
+  -- the row that names it is the parent that is found, at the side that is found
+  module _ (n : ℕ) (kids : (i : ℕ) → i < n → Kids i n (node i)) (once : Once node n) where
+    pub parent-is : (i j : ℕ) (s : Bool) → i < n → Child (node i) s j → (parentOf node j ≡ i) × (rightOf node j ≡ s)
+    parent-is i j s h c =
+        let (a, b) = child-above i n j (node i) s (kids i h) c in
+        let f : parentOf node j < j = named-found i j s a c in
+        once (parentOf node j) i (rightOf node j) s j (omega arith) h (parent-child j f) c
