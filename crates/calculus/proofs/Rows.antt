@@ -3,15 +3,13 @@ use Prim.Native.Nat.{ℕ}
 use mathlib.Core.Path.{_≡_, refl, sym, _∙_, ap, ap₂, subst, pathJ}
 use mathlib.Core.Bool.{Bool, true, false}
 use mathlib.Core.Option.{Option, none, some}
-use mathlib.Core.List.{List, [], _∷_, map, head-eq-of-cons-eq, tail-eq-of-cons-eq, nil≢cons, cons≢nil}
-use mathlib.Core.Logic.{_⊎_, inl, inr}
-use lib.Dec.{eqb}
+use mathlib.Core.List.{[], map, head-eq-of-cons-eq, tail-eq-of-cons-eq, nil≢cons, cons≢nil}
+use mathlib.Core.Logic.{inl, inr}
 use borrow.Author.Tests.{eqb-true}
-use Rattle.laws.specs.Tests.{or, Apart}
+use Rattle.laws.specs.Tests.{Apart}
 use Rattle.laws.proofs.Tests.{not-both, cond-all, or-false, false-or, or-l, or-r, self, Apart·sym, Apart·less}
 use Rattle.calculus.specs.Process.{Process, nil, prefix, branch, Prefix}
 use Rattle.calculus.specs.Status.{Value, Links}
-use Rattle.calculus.specs.Plain.{Label, step, clean}
 use Rattle.calculus.specs.Places.{Place, row, here, Turn, takes, drops, decides, after, put-on, effect, Mode, falsifies, named, Ready, Move, move, label, left, links}
 use Rattle.calculus.specs.Runs.{Run, done, more, trail, last, last-links}
 use Rattle.calculus.specs.Rows.{rows, Distinct, first, when, at, row-of}

@@ -1,18 +1,16 @@
 -- Runs: validity is kept, links once set stay, and the runs of plain and of another mode answer each other. Assumes nothing.
 use Prim.Native.Nat.{ℕ}
 use mathlib.Core.Path.{_≡_, refl, sym, _∙_, ap, ap₂, subst, pathJ}
-use mathlib.Core.Bool.{Bool, true, false, true≢false}
-use mathlib.Core.List.{List, [], _∷_}
-use mathlib.Core.Logic.{_⊎_, inl, inr, _↔_}
+use mathlib.Core.Bool.{false, true≢false}
+use mathlib.Core.List.{[], _∷_}
 use Rattle.calculus.specs.Process.{Process, Prefix}
 use Rattle.calculus.specs.Status.{Value, Links}
 use Rattle.calculus.specs.Plain.{Label, step, clean}
-use Rattle.calculus.specs.Order.{_⊑_}
-use Rattle.calculus.specs.Places.{Place, row, here, Turn, takes, drops, after, put-on, effect, Mode, plain, falsifies, cleans, Valid, Grows, named, Monotone, Ready, Move, move, label, left, links}
+use Rattle.calculus.specs.Places.{Place, row, here, takes, drops, after, put-on, effect, Mode, plain, falsifies, cleans, Valid, Grows, named, Monotone, Ready, Move, move, label, left, links}
 use Rattle.calculus.specs.Runs.{strike, Run, done, more, trail, last, last-links, Lists, Alike}
 use Rattle.calculus.proofs.Effects.{Valid·after, Grows·after, Grows·refl, Grows·trans}
 use Rattle.calculus.proofs.Order.{⊑·grows, Ready·grows, Ready·below, passes-here}
-use Rattle.calculus.proofs.Simulation.{lift, lift-row, lift-here, lower, Pair, Pair·takes, Pair·drops}
+use Rattle.calculus.proofs.Simulation.{lift, lift-name, lift-here, lower, Pair, Pair·takes, Pair·drops}
 
 module _ (eval : ℕ → Links → Value) where
   -- a run, seen from a state that equals its own
@@ -35,9 +33,6 @@ module _ (eval : ℕ → Links → Value) where
 
   module _ (mono : (c : ℕ) → Monotone (eval c)) where
     module _ {P : Process} {v : Links} {Q : Process} {w : Links} (h : Pair eval P v Q w) (m : Mode) where
-      same-name : (y : Place Q) → step (row P (lift eval (h .shed) y)) (here P (lift eval (h .shed) y)) ≡ step (row Q y) (here Q y)
-      same-name y = ap₂ step (lift-row eval (h .shed) y) (lift-here eval (h .shed) y)
-
       -- the state of mode m answers a plain step by the same step
       pub answer : (s : Move eval plain P v) → (t : Move eval m Q w) × (label eval t ≡ label eval s) × Pair eval (left eval s) (links eval s) (left eval t) (links eval t)
       unfolding cleans falsifies
@@ -45,7 +40,7 @@ module _ (eval : ℕ → Links → Value) where
           let r : Ready eval takes (here P x) w = Ready·grows eval mono (⊑·grows (h .less)) takes (here P x) o in
           let (y, p) = lower eval (h .shed) x r in (
             move takes y tt (subst (λ (π : Prefix). Ready eval takes π w) (sym (ap (here P) p) ∙ lift-here eval (h .shed) y) r),
-            sym (same-name y) ∙ ap (λ (x : Place P). step (row P x) (here P x)) p,
+            sym (lift-name eval (h .shed) y) ∙ ap (λ (x : Place P). step (row P x) (here P x)) p,
             subst (λ (z : Place P). Pair eval (after takes P z) (put-on (effect takes false P z) v) (after takes Q y) (put-on (effect takes (falsifies m) Q y) w)) p (Pair·takes eval mono (falsifies m) h y),
           )
       answer (move drops x a o) = absurd (true≢false (sym a))
@@ -55,7 +50,7 @@ module _ (eval : ℕ → Links → Value) where
       unfolding falsifies
       reply y o = (
         move takes (lift eval (h .shed) y) tt (Ready·below eval (h .less) _ (passes-here eval P (lift eval (h .shed) y) (h .passes)) (subst (λ (π : Prefix). Ready eval takes π w) (sym (lift-here eval (h .shed) y)) o)),
-        same-name y,
+        lift-name eval (h .shed) y,
         Pair·takes eval mono (falsifies m) h y,
       )
 

@@ -1,5 +1,5 @@
 -- The thirty-six values pinned by what the operators mean, and what every operator keeps. Each is one computed test of all values. Assumes nothing.
-use mathlib.Core.Path.{_≡_, refl, sym, _∙_}
+use mathlib.Core.Path.{_≡_, refl, sym}
 use mathlib.Core.Bool.{Bool, true, false, cond, _&&_, true≢false}
 use mathlib.Core.Logic.{_⊎_, inl, inr}
 use Rattle.laws.proofs.Tests.{and-l, and-r}

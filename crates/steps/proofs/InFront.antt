@@ -1,20 +1,20 @@
 -- The rows in front, as document 01 words it, are the rows of the places of the remainder. Assumes nothing.
-use Prim.Native.Nat.{ℕ, zero, suc, _+_, _<_, _≤_}
+use Prim.Native.Nat.{ℕ, zero, suc, _<_}
 use mathlib.Core.Path.{_≡_, refl, sym, ap, _∙_, subst}
-use mathlib.Core.Bool.{Bool, true, false, cond, _&&_, not, true≢false}
-use mathlib.Core.Logic.{_⊎_, inl, inr, ⊎-elim, by-cases}
+use mathlib.Core.Bool.{Bool, true, false, _&&_, true≢false}
+use mathlib.Core.Logic.{inl, inr, by-cases}
 use native.Mathlib.Omega.{arith}
 use native.Mathlib.Decide.{decLt}
-use lib.Dec.{eqb, ltb}
+use lib.Dec.{ltb}
 use borrow.Author.Tests.{ne-eqb, lt-ltb, ltb-true}
 use Rattle.laws.specs.Up.{below}
 use Rattle.laws.proofs.Tests.{and-l, and-r, not-both}
 use Rattle.laws.proofs.Up.{up-at, below-in, below-out}
-use Rattle.calculus.specs.Process.{Process, prefix, branch, Prefix, Branching}
+use Rattle.calculus.specs.Process.{Process, Prefix, Branching}
 use Rattle.calculus.specs.Places.{Place, row, here}
-use Rattle.steps.specs.Rows.{Row, NIL, PREFIX, BRANCH, Kids, Child, Once, Tree}
+use Rattle.steps.specs.Rows.{Row, NIL, PREFIX, BRANCH, Kids, Child, Once}
 use Rattle.steps.specs.Marks.{Marks, Stand, waits, passed, dropped, stand, Open, both, left, right, open-branches, afterMark, afterTaken}
-use Rattle.steps.specs.InFront.{parentOf, rightOf, waitsBy, undecided, waiting, passedBy, opens, leads, reachedBy, reached, inFront}
+use Rattle.steps.specs.InFront.{parentOf, rightOf, waitsBy, waiting, passedBy, opens, leads, reachedBy, reached, inFront}
 use Rattle.steps.proofs.Tree.{child-above, row-induction}
 use Rattle.steps.proofs.Parents.{parent-child, parent-is}
 use Rattle.steps.proofs.Remainder.{remainderBy, remainderOf, remainder-at}

@@ -1,14 +1,13 @@
 -- The parent of a row: found where some row names it, and the one row that does. Assumes nothing.
-use Prim.Native.Nat.{ℕ, zero, suc, _+_, _<_, _≤_}
-use mathlib.Core.Path.{_≡_, refl, sym, ap, _∙_, subst}
+use Prim.Native.Nat.{ℕ, _+_, _<_}
+use mathlib.Core.Path.{_≡_, refl, sym, ap}
 use mathlib.Core.Bool.{Bool, true, false, not}
-use mathlib.Core.Logic.{_⊎_, inl, inr, ⊎-elim}
+use mathlib.Core.Logic.{⊎-elim}
 use native.Mathlib.Omega.{arith}
 use lib.Dec.{eqb}
 use borrow.Author.Tests.{eqb-true, eq-eqb}
-use Rattle.laws.specs.Tests.{or}
 use Rattle.laws.specs.Lowest.{lowest}
-use Rattle.laws.proofs.Tests.{cases, not-both, or-true, or-l, or-r}
+use Rattle.laws.proofs.Tests.{not-both, or-true, or-l, or-r}
 use Rattle.laws.proofs.Lowest.{lowest-at, lowest-found}
 use Rattle.steps.specs.Rows.{Row, NIL, PREFIX, BRANCH, Kids, Child, Once}
 use Rattle.steps.specs.InFront.{firstOf, secondOf, names, parentOf, rightOf}

@@ -1,11 +1,10 @@
 -- Sheet X of document 01: its five listing cases, computed on the definitions. Assumes nothing.
 use Prim.Native.Nat.{ℕ, zero, suc}
 use mathlib.Core.Path.{_≡_, refl}
-use mathlib.Core.Bool.{Bool, true, false, _&&_}
+use mathlib.Core.Bool.{true}
 use mathlib.Core.Option.{Option, none, some}
 use mathlib.Core.List.{List, [], _∷_, map}
 use lib.ListN.{getD}
-use lib.Dec.{eqb}
 use Rattle.laws.specs.Tests.{or}
 use Rattle.laws.specs.Down.{seen, down-by, down}
 use Rattle.laws.specs.Up.{below, up-by, up}

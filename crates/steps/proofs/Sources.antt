@@ -2,11 +2,11 @@
 use Prim.Native.Nat.{ℕ, _<_}
 use mathlib.Core.Path.{_≡_, refl, sym, _∙_, ap, subst}
 use mathlib.Core.Bool.{Bool, true, false, true≢false}
-use mathlib.Core.Logic.{_⊎_, inl, inr, ⊎-elim, _↔_}
-use borrow.Author.Tests.{eqb-true, eq-eqb}
-use Rattle.laws.specs.Tests.{or, Set, Apart}
+use mathlib.Core.Logic.{⊎-elim, _↔_}
+use borrow.Author.Tests.{eqb-true}
+use Rattle.laws.specs.Tests.{Set, Apart}
 use Rattle.laws.proofs.Tests.{not-both, refuted, self, or-true, or-l, or-r}
-use Rattle.calculus.specs.Process.{Process, prefix, branch, Prefix, act, out, join}
+use Rattle.calculus.specs.Process.{Process, Prefix, act, out, join}
 use Rattle.calculus.specs.Typing.{Types}
 use Rattle.calculus.specs.Places.{own, sets, Single}
 use Rattle.calculus.specs.Rows.{rows}

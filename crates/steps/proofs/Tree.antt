@@ -1,13 +1,13 @@
 -- The process of each row: its equation, induction from children to parents, and which rows it has. Assumes nothing.
-use Prim.Native.Nat.{ℕ, zero, suc, _+_, _-_, _<_, _≤_}
+use Prim.Native.Nat.{ℕ, zero, suc, _+_, _<_, _≤_}
 use mathlib.Core.Path.{_≡_, refl, sym, _∙_, ap, ap₂, subst}
 use mathlib.Core.Bool.{Bool, true, false, true≢false}
 use mathlib.Core.Logic.{_⊎_, inl, inr, ⊎-elim, by-cases}
 use native.Mathlib.Omega.{arith}
 use native.Mathlib.Decide.{ℕ-discrete}
 use borrow.Author.Tests.{eqb-true}
-use Rattle.laws.specs.Tests.{or, Apart}
-use Rattle.laws.specs.Down.{seen, down}
+use Rattle.laws.specs.Tests.{Apart}
+use Rattle.laws.specs.Down.{seen}
 use Rattle.laws.proofs.Tests.{not-both, refuted, self, or-true, or-l, or-r}
 use Rattle.laws.proofs.Down.{seen-in, down-at}
 use Rattle.calculus.specs.Process.{Process, nil, prefix, branch}
