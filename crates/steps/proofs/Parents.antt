@@ -9,8 +9,8 @@ use borrow.Author.Tests.{eqb-true, eq-eqb}
 use Rattle.laws.specs.Lowest.{lowest}
 use Rattle.laws.proofs.Tests.{not-both, or-true, or-l, or-r}
 use Rattle.laws.proofs.Lowest.{lowest-at, lowest-found}
-use Rattle.steps.specs.Rows.{Row, NIL, PREFIX, BRANCH, Kids, Child, Once}
-use Rattle.steps.specs.InFront.{firstOf, secondOf, names, parentOf, rightOf}
+use Rattle.steps.specs.Rows.{Row, NIL, PREFIX, BRANCH, firstOf, secondOf, Kids, Child, Once}
+use Rattle.steps.specs.InFront.{names, parentOf, rightOf}
 use Rattle.steps.proofs.Tree.{child-above}
 
 -- children by number

@@ -11,14 +11,8 @@ use Rattle.calculus.specs.Typing.{Types}
 use Rattle.calculus.specs.Places.{own, sets, Single}
 use Rattle.calculus.specs.Rows.{rows}
 use Rattle.calculus.proofs.Typing.{types-of, typed-single}
-use Rattle.steps.specs.Rows.{Row, NIL, PREFIX, BRANCH, termBy, term, Kids, Child, Once, OutRow, OneSource, Tree}
+use Rattle.steps.specs.Rows.{Row, NIL, PREFIX, BRANCH, termBy, term, Kids, Child, Once, isSource, OutRow, OneSource, Tree}
 use Rattle.steps.proofs.Tree.{one-child, term-at, row-induction, term-induction, rows-cases, not-in, siblings, all-rows}
-
--- the link that a row sets itself
-unfoldable ownRow : Row → ℕ → Bool
-ownRow NIL l = false
-ownRow (PREFIX π c) l = own π l
-ownRow (BRANCH κ p q) l = false
 
 own-out : (π : Prefix) (c l : ℕ) → own π l ≡ true → (b : Bool) × (PREFIX π c ≡ PREFIX (out l b) c)
 unfolding own
@@ -26,8 +20,8 @@ own-out (act a) c l e = absurd (true≢false (sym e))
 own-out (out k b) c l e = (b, rw (eqb-true l k e) refl)
 own-out (join a) c l e = absurd (true≢false (sym e))
 
-out-own : (node : ℕ → Row) (j l : ℕ) → OutRow node j l → ownRow (node j) l ≡ true
-unfolding ownRow own
+out-own : (node : ℕ → Row) (j l : ℕ) → OutRow node j l → isSource (node j) l ≡ true
+unfolding isSource own
 out-own node j l (b, c, e) = rw e (self l)
 
 module _ (node : ℕ → Row) (n : ℕ) (kids : (i : ℕ) → i < n → Kids i n (node i)) (once : Once node n) where
@@ -73,8 +67,8 @@ module _ (node : ℕ → Row) (n : ℕ) (kids : (i : ℕ) → i < n → Kids i n
     term-single = term-induction node n kids Single single-by
 
   -- Typed, so one source: among the rows of a row's process ...
-  own-by : (i l : ℕ) (N : Row) → ownRow N l ≡ true → sets (termBy i N T) l ≡ true
-  unfolding termBy sets ownRow
+  own-by : (i l : ℕ) (N : Row) → isSource N l ≡ true → sets (termBy i N T) l ≡ true
+  unfolding termBy sets isSource
   own-by i l NIL o = absurd (true≢false (sym o))
   own-by i l (PREFIX π c) o = or-l _ o
   own-by i l (BRANCH κ p q) o = absurd (true≢false (sym o))
@@ -104,8 +98,8 @@ module _ (node : ℕ → Row) (n : ℕ) (kids : (i : ℕ) → i < n → Kids i n
 
   module _ (l i : ℕ) where
     -- what a row sets itself is not set below it
-    own-once : (N : Row) (s : Bool) (c : ℕ) → Child N s c → Single (termBy i N T) → ownRow N l ≡ true → sets (T c) l ≡ true → ⊥
-    unfolding Child termBy Single ownRow
+    own-once : (N : Row) (s : Bool) (c : ℕ) → Child N s c → Single (termBy i N T) → isSource N l ≡ true → sets (T c) l ≡ true → ⊥
+    unfolding Child termBy Single isSource
     own-once NIL s c x h o e = x
     own-once (PREFIX π d) false c x h o e = not-both e (rw (← x) (h .0 l o))
     own-once (PREFIX π d) true c x h o e = x

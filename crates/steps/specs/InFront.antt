@@ -6,19 +6,8 @@ use Rattle.laws.specs.Tests.{or}
 use Rattle.laws.specs.Lowest.{lowest}
 use Rattle.laws.specs.Sums.{count}
 use Rattle.laws.specs.Up.{up}
-use Rattle.steps.specs.Rows.{Row, NIL, PREFIX, BRANCH}
+use Rattle.steps.specs.Rows.{Row, NIL, PREFIX, BRANCH, firstOf, secondOf}
 use Rattle.steps.specs.Marks.{Marks, Stand, waits, passed, dropped, stand, Open, both, left, right, open-branches}
-
--- the only or left child, and the right one; 0 where there is none, for no row has row 0 as a child
-unfoldable pub firstOf : Row → ℕ
-firstOf NIL = 0
-firstOf (PREFIX π c) = c
-firstOf (BRANCH κ p q) = p
-
-unfoldable pub secondOf : Row → ℕ
-secondOf NIL = 0
-secondOf (PREFIX π c) = 0
-secondOf (BRANCH κ p q) = q
 
 unfoldable pub names : Row → ℕ → Bool
 names N j = or (eqb (firstOf N) j) (eqb (secondOf N) j)
