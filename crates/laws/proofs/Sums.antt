@@ -5,7 +5,7 @@ use mathlib.Core.Bool.{Bool, true, false, cond}
 use mathlib.Core.Logic.{⊎-elim, by-cases}
 use native.Mathlib.Omega.{arith}
 use native.Mathlib.Numerals.{add-one}
-use native.Mathlib.Decide.{ℕ-discrete}
+use native.Mathlib.Decide.{ℕ-discrete, decLt}
 use Rattle.laws.specs.Sums.{sum, count}
 use Rattle.laws.proofs.Tests.{cases}
 
@@ -42,3 +42,9 @@ count-apart p q r (suc n) f g =
 pub count-one : (p : ℕ → Bool) (n i : ℕ) → i < n → p i ≡ true → 1 ≤ count p n
 unfolding count
 count-one p n i h e = let z : cond (p i) 1 0 ≤ sum (λ i. cond (p i) 1 0) n = sum-has (λ i. cond (p i) 1 0) n i h in rw e at z
+
+-- a sum that is not 0 has a part that is not
+pub sum-some : (f : ℕ → ℕ) (n : ℕ) → 1 ≤ sum f n → (i : ℕ) × (i < n) × (1 ≤ f i)
+unfolding sum
+sum-some f zero h = absurd (let z : ⊥ = omega arith in z)
+sum-some f (suc n) h = by-cases (decLt 0 (f n)) (λ g. (n, omega arith, omega arith)) (λ g. let (i, a, b) = sum-some f n (omega arith) in (i, omega arith, b))

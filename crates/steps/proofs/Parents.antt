@@ -14,7 +14,7 @@ use Rattle.steps.specs.InFront.{names, parentOf, rightOf}
 use Rattle.steps.proofs.Tree.{child-above}
 
 -- children by number
-pub childAt : Row → Bool → ℕ
+unfoldable pub childAt : Row → Bool → ℕ
 childAt N false = firstOf N
 childAt N true = secondOf N
 
