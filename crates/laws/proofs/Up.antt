@@ -36,15 +36,15 @@ module _ {A : Type 0} (d : A) (step : ℕ → (ℕ → A) → A) where
   unfolding up up-by
   up-at row = ap (step row) (below-same d (up-by d step row) (λ j. up-by d step (suc j) j) row (λ j h. enough row (suc j) j h (omega arith)))
 
-module _ {A : Type 0} (d : A) (v : ℕ → A) where
-  pub getD-constant : (n j : ℕ) → getD (replicate n d) j d ≡ d
-  getD-constant zero j = refl
-  getD-constant (suc n) zero = refl
-  getD-constant (suc n) (suc j) = getD-constant n j
+pub getD-constant : {A : Type 0} (d : A) (n j : ℕ) → getD (replicate n d) j d ≡ d
+getD-constant d zero j = refl
+getD-constant d (suc n) zero = refl
+getD-constant d (suc n) (suc j) = getD-constant d n j
 
+module _ {A : Type 0} (d : A) (v : ℕ → A) where
   pub filled-none : (n : ℕ) → Filled d v 0 (replicate n d)
   unfolding Filled
-  filled-none n j = getD-constant n j ∙ sym (below-out d v 0 j (omega arith))
+  filled-none n j = getD-constant d n j ∙ sym (below-out d v 0 j (omega arith))
 
   pub filled-more : (i : ℕ) (t : List A) (x : A) → i < length t → x ≡ v i → Filled d v i t → Filled d v (i + 1) (set t i x)
   unfolding Filled

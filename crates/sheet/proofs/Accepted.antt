@@ -93,6 +93,28 @@ out-source : (node : ℕ → Row) (j l : ℕ) → OutRow node j l → isSource (
 unfolding isSource own
 out-source node j l (b, c, e) = rw e (self l)
 
+-- every link that a condition reaches is below m
+below-by : (m l : ℕ) (N : ConditionRow) (C : ℕ → Condition) → LinkOk m N → ((j : ℕ) → reached (C j) l ≡ true → l < m) → reached (conditionBy N C) l ≡ true → l < m
+unfolding reached conditionBy LinkOk
+below-by m l FALSE C o ih e = absurd (true≢false (sym e))
+below-by m l TRUE C o ih e = absurd (true≢false (sym e))
+below-by m l (LINK k) C o ih e = rw (eqb-true l k e) o
+below-by m l (OP u a b) C o ih e = ⊎-elim (λ p. ih a p) (λ p. ih b p) (or-true e)
+
+links-by : (m k : ℕ) (cs : List ℕ) → Holds (conditions m k cs) → (l f i : ℕ) → i < f → i < k → reached (condition (conditionRowAt cs) i) l ≡ true → l < m
+unfolding reached
+links-by m k cs g l zero i a b e = absurd (let z : ⊥ = omega arith in z)
+links-by m k cs g l (suc f) i a b e =
+    below-by m l (conditionRowAt cs i) (below (constant false) (condition (conditionRowAt cs)) i)
+    (condition-row cs m i (g i (omega arith) b))
+    (λ j r. by-cases (decLt j i)
+    (λ h. links-by m k cs g l f j (omega arith) (omega arith) (sym (ap (λ (c : Condition). reached c l) (below-in (constant false) (condition (conditionRowAt cs)) i j h)) ∙ r))
+    (λ h. absurd (true≢false (sym (sym (ap (λ (c : Condition). reached c l) (below-out (constant false) (condition (conditionRowAt cs)) i j (omega arith))) ∙ r)))))
+    (sym (ap (λ (c : Condition). reached c l) (condition-at (conditionRowAt cs) i)) ∙ e)
+
+pub links-below : (m k : ℕ) (cs : List ℕ) → Holds (conditions m k cs) → (c l : ℕ) → c < k → reached (condition (conditionRowAt cs) c) l ≡ true → l < m
+links-below m k cs g c l h e = links-by m k cs g l (suc c) c (omega arith) h e
+
 module _ (t : Table) (g : Meets t) where
   abbrev node : ℕ → Row
   node = rowAt (t .terms)
@@ -144,25 +166,6 @@ module _ (t : Table) (g : Meets t) where
       let two = sum-two (λ i. cond (isSource (node i) l) 1 0) (t .n) j j′ h h′ e in
       absurd (let z : ⊥ = omega (arith, rw (s, s′) at two) in z))
 
-  -- ... and every link that a condition reaches is below m
-  below-by : (i l : ℕ) (N : ConditionRow) (C : ℕ → Condition) → LinkOk (t .m) N → ((j : ℕ) → reached (C j) l ≡ true → l < t .m) → reached (conditionBy N C) l ≡ true → l < t .m
-  unfolding reached conditionBy LinkOk
-  below-by i l FALSE C o ih e = absurd (true≢false (sym e))
-  below-by i l TRUE C o ih e = absurd (true≢false (sym e))
-  below-by i l (LINK k) C o ih e = rw (eqb-true l k e) o
-  below-by i l (OP u a b) C o ih e = ⊎-elim (λ p. ih a p) (λ p. ih b p) (or-true e)
-
-  links-below : (l f i : ℕ) → i < f → i < t .k → reached (condition (conditionRowAt (t .conditions)) i) l ≡ true → l < t .m
-  unfolding reached
-  links-below l zero i a b e = absurd (let z : ⊥ = omega arith in z)
-  links-below l (suc f) i a b e =
-      below-by i l (conditionRowAt (t .conditions) i) (below (constant false) (condition (conditionRowAt (t .conditions))) i)
-      (condition-row (t .conditions) (t .m) i (g .rule-4 i (omega arith) b))
-      (λ j r. by-cases (decLt j i)
-      (λ h. links-below l f j (omega arith) (omega arith) (sym (ap (λ (c : Condition). reached c l) (below-in (constant false) (condition (conditionRowAt (t .conditions))) i j h)) ∙ r))
-      (λ h. absurd (true≢false (sym (sym (ap (λ (c : Condition). reached c l) (below-out (constant false) (condition (conditionRowAt (t .conditions))) i j (omega arith))) ∙ r)))))
-      (sym (ap (λ (c : Condition). reached c l) (condition-at (conditionRowAt (t .conditions)) i)) ∙ e)
-
   pub well-formed : WellFormed t
   unfolding sized settled RowOk PrefixOk
   well-formed =
@@ -179,7 +182,7 @@ module _ (t : Table) (g : Meets t) where
         tree = record { some-row = leb-true _ _ (and-l _ _ s); kids = kids; once = once; named = named };
         outs = λ i l c b h e. (rw e at (row-ok i h)) .0;
         joins = λ i q c h e. (rw e at (row-ok i h)) .0;
-        links = λ c l h e. links-below l (suc c) c (omega arith) h e;
+        links = links-below (t .m) (t .k) (t .conditions) (g .rule-4);
       }
 
   pub narrow-joins : Narrow t

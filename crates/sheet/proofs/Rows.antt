@@ -6,12 +6,12 @@ use mathlib.Core.List.{List}
 use lib.Dec.{eqb, ltb}
 use lib.ListN.{getD}
 use borrow.Author.Tests.{ltb-true, eqb-true}
-use Rattle.laws.proofs.Tests.{and-l, and-r}
+use Rattle.laws.proofs.Tests.{and-l, and-r, cond-all}
 use Rattle.calculus.specs.Process.{Prefix, act, out, join, pick, flow}
 use Rattle.calculus.specs.Places.{own}
 use Rattle.conditions.specs.Operators.{Operator}
 use Rattle.conditions.specs.Conditions.{ConditionRow, FALSE, TRUE, LINK, OP}
-use Rattle.steps.specs.Rows.{Row, NIL, PREFIX, BRANCH, Kids, isSource}
+use Rattle.steps.specs.Rows.{Row, NIL, PREFIX, BRANCH, secondOf, Kids, isSource}
 use Rattle.sheet.specs.Table.{rowBy, rowAt, operatorOf, conditionRowBy, conditionRowAt}
 use Rattle.sheet.specs.Rules.{conditionRule, conditionOk, childOk, termRule, termOk}
 
@@ -47,6 +47,34 @@ unfolding termOk termRule rowAt rowBy
 term-row ts m n k i e =
     let q : ℕ = getD ts (i * 4) 0 in
     row-by m n k i _ _ _ _ _ (ltb (getD ts (i * 4 + 2) 0) 2) _ (eqb q 0) (eqb q 1) (eqb q 2) (eqb q 3) (eqb q 4) (eqb q 5) e
+
+-- what a row is by its kind
+pub row-other : (kind a b c : ℕ) → eqb kind 1 ≡ false → eqb kind 2 ≡ false → eqb kind 3 ≡ false → eqb kind 4 ≡ false → eqb kind 5 ≡ false → rowBy kind a b c ≡ NIL
+unfolding rowBy
+row-other kind a b c p q r s t = rw (p, q, r, s, t) (cond-all (λ (N : Row). N ≡ NIL) (eqb kind 0) refl refl)
+
+pub row-one-child : (kind a b c : ℕ) → eqb kind 4 ≡ false → eqb kind 5 ≡ false → secondOf (rowBy kind a b c) ≡ 0
+unfolding rowBy secondOf
+row-one-child kind a b c s t = rw (s, t) (at (eqb kind 0) (eqb kind 1) (eqb kind 2) (eqb kind 3))
+  where
+    at : (t₀ t₁ t₂ t₃ : Bool) → secondOf (cond t₀ NIL (cond t₁ (PREFIX (act a) b) (cond t₂ (PREFIX (out a (eqb b 1)) c) (cond t₃ (PREFIX (join a) b) NIL)))) ≡ 0
+    at true t₁ t₂ t₃ = refl
+    at false true t₂ t₃ = refl
+    at false false true t₃ = refl
+    at false false false true = refl
+    at false false false false = refl
+
+pub row-no-source : (kind a b c l : ℕ) → eqb kind 2 ≡ false → isSource (rowBy kind a b c) l ≡ false
+unfolding rowBy isSource own
+row-no-source kind a b c l e = rw e (at (eqb kind 0) (eqb kind 1) (eqb kind 3) (eqb kind 4) (eqb kind 5))
+  where
+    at : (t₀ t₁ t₃ t₄ t₅ : Bool) → isSource (cond t₀ NIL (cond t₁ (PREFIX (act a) b) (cond t₃ (PREFIX (join a) b) (cond t₄ (BRANCH pick a b) (cond t₅ (BRANCH flow a b) NIL))))) l ≡ false
+    at true t₁ t₃ t₄ t₅ = refl
+    at false true t₃ t₄ t₅ = refl
+    at false false true t₄ t₅ = refl
+    at false false false true t₅ = refl
+    at false false false false true = refl
+    at false false false false false = refl
 
 pub row-kids : (m n k i : ℕ) (N : Row) → RowOk m n k i N → Kids i n N
 unfolding RowOk Kids
