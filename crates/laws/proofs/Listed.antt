@@ -118,3 +118,11 @@ listed-under p i (suc c) k m =
     (λ (t : p i ≡ true). ⊎-elim (λ (q : k ≡ i). omega arith) (λ h. omega (arith, listed-under p (suc i) c k h)) (List·Memᴰ·cases-cons (rw t at m)))
     (λ (t : p i ≡ false). omega (arith, listed-under p (suc i) c k (rw t at m)))
     (cases (p i))
+
+-- where the test fails from some number on, nothing is listed past it
+pub listed-cut : (p : ℕ → Bool) (i c n : ℕ) → c ≤ n → ((j : ℕ) → i + c ≤ j → p j ≡ false) → listed p i n ≡ listed p i c
+unfolding listed
+listed-cut p i zero zero h f = refl
+listed-cut p i (suc c) zero h f = absurd (omega arith)
+listed-cut p i zero (suc n) h f = rw (f i (omega arith)) (listed-cut p (suc i) zero n (omega arith) (λ j g. f j (omega arith)))
+listed-cut p i (suc c) (suc n) h f = rw (listed-cut p (suc i) c n (omega arith) (λ j g. f j (omega arith)))

@@ -1,0 +1,98 @@
+-- The binary digits of a number, of a power of two, of two numbers joined, and how many are set. Assumes nothing.
+use Prim.Native.Nat.{ℕ, zero, suc, _+_, _-_, _*_, _/_, _%_, _^_, _<_, max}
+use mathlib.Core.Path.{_≡_, refl, sym, _∙_, ap, ap₂}
+use mathlib.Core.Bool.{Bool, true, false, cond}
+use mathlib.Core.List.{List, _∷_}
+use native.Mathlib.Omega.{arith}
+use native.Mathlib.Decide.{decLt}
+use native.Mathlib.Nat.{div-eq-of-lt, div-self, div-one, pow-suc, mul-comm, div-div-eq-div-mul}
+use lib.Dec.{eqb}
+use lib.ListN.{length}
+use lib.Bits.{bitOr, or-shr, or-step}
+use lib.Pow.{pow-lt, pow-add, shl-shr, pow-pos}
+use lib.Count.{ones, onesIn, ones-step}
+use borrow.Author.Tests.{eq-eqb, ne-eqb}
+use Rattle.laws.specs.Tests.{or}
+use Rattle.laws.specs.Listed.{listed}
+use Rattle.reach.specs.Masks.{hasBit}
+
+or-digit : (p q : ℕ) → p < 2 → q < 2 → (eqb (max p q) 1 ≡ or (eqb p 1) (eqb q 1)) × (max p q < 2)
+unfolding or
+or-digit zero zero h k = (refl, h)
+or-digit zero (suc zero) h k = (refl, k)
+or-digit zero (suc (suc q)) h k = absurd (let z : ⊥ = omega arith in z)
+or-digit (suc zero) zero h k = (refl, h)
+or-digit (suc zero) (suc zero) h k = (refl, h)
+or-digit (suc zero) (suc (suc q)) h k = absurd (let z : ⊥ = omega arith in z)
+or-digit (suc (suc p)) q h k = absurd (let z : ⊥ = omega arith in z)
+
+or-low : (x y : ℕ) → bitOr x y % 2 ≡ max (x % 2) (y % 2)
+or-low x y =
+    let s : bitOr x y ≡ bitOr (x / 2) (y / 2) * 2 + max (x % 2) (y % 2) = or-step x y in
+    let m : max (x % 2) (y % 2) < 2 = or-digit (x % 2) (y % 2) (omega arith) (omega arith) .1 in
+    omega arith
+
+pub bit-or : (a b l : ℕ) → hasBit (bitOr a b) l ≡ or (hasBit a l) (hasBit b l)
+unfolding hasBit
+bit-or a b l =
+    ap (λ (x : ℕ). eqb (x % 2) 1) (or-shr a b l) ∙
+    ap (λ (x : ℕ). eqb x 1) (or-low (a / 2 ^ l) (b / 2 ^ l)) ∙
+    or-digit ((a / 2 ^ l) % 2) ((b / 2 ^ l) % 2) (omega arith) (omega arith) .0
+
+-- one power of two has one digit
+power-low : (l d : ℕ) → 2 ^ (suc d + l) / 2 ^ l % 2 ≡ 0
+power-low l d =
+    let e : 2 ^ (suc d + l) / 2 ^ l ≡ 2 ^ suc d = ap (λ (x : ℕ). x / 2 ^ l) (pow-add 2 (suc d) l) ∙ shl-shr (2 ^ suc d) l in
+    let f : 2 ^ suc d ≡ 2 ^ d * 2 = pow-suc 2 d in
+    omega arith
+
+pub bit-power : (k l : ℕ) → hasBit (2 ^ k) l ≡ eqb l k
+unfolding hasBit
+bit-power k l = at (decLt l k) (decLt k l)
+  where
+    at : Dec (l < k) → Dec (k < l) → eqb (2 ^ k / 2 ^ l % 2) 1 ≡ eqb l k
+    at (yes h) q =
+        let e : k ≡ suc (k - suc l) + l = omega arith in
+        let z : 2 ^ k / 2 ^ l % 2 ≡ 0 = ap (λ (x : ℕ). 2 ^ x / 2 ^ l % 2) e ∙ power-low l (k - suc l) in
+        rw (z, ne-eqb l k (λ (p : l ≡ k). omega arith))
+    at (no h) (yes q) = rw (div-eq-of-lt (pow-lt q), ne-eqb l k (λ (p : l ≡ k). omega arith))
+    at (no h) (no q) = let e : l ≡ k = omega arith in rw (e, div-self (pow-pos k), eq-eqb k k refl)
+
+pub bit-none : (l : ℕ) → hasBit 0 l ≡ false
+unfolding hasBit
+bit-none l = rw (div-eq-of-lt (pow-pos l))
+
+-- the digits of a number are its lowest, and those of its half
+bit-half : (x l : ℕ) → hasBit x (suc l) ≡ hasBit (x / 2) l
+unfolding hasBit
+bit-half x l = ap (λ (y : ℕ). eqb (y % 2) 1) (ap (λ (y : ℕ). x / y) (pow-suc 2 l ∙ mul-comm (2 ^ l) 2) ∙ sym (div-div-eq-div-mul x 2 (2 ^ l)))
+
+bit-first : (x : ℕ) → hasBit x 0 ≡ eqb (x % 2) 1
+unfolding hasBit
+bit-first x = rw (div-one x)
+
+-- a list one place further on is as long
+shifted : (p q : ℕ → Bool) (i c : ℕ) → ((j : ℕ) → p (suc j) ≡ q j) → length (listed p (suc i) c) ≡ length (listed q i c)
+unfolding listed
+shifted p q i zero h = refl
+shifted p q i (suc c) h = rw (h i) (at (q i) (shifted p q (suc i) c h))
+  where
+    at : (b : Bool) → length (listed p (suc (suc i)) c) ≡ length (listed q (suc i) c) → length (cond b (suc i ∷ listed p (suc (suc i)) c) (listed p (suc (suc i)) c)) ≡ length (cond b (i ∷ listed q (suc i) c) (listed q (suc i) c))
+    at true ih = ap suc ih
+    at false ih = ih
+
+digit-counts : (d : ℕ) → d < 2 → (i : ℕ) (xs : List ℕ) → d + length xs ≡ length (cond (eqb d 1) (i ∷ xs) xs)
+digit-counts zero h i xs = omega arith
+digit-counts (suc zero) h i xs = omega arith
+digit-counts (suc (suc d)) h i xs = absurd (let z : ⊥ = omega arith in z)
+
+-- the count of the digits that are set is the length of their list
+pub ones-listed : (d x : ℕ) → x < 2 ^ d → ones x ≡ length (listed (hasBit x) 0 d)
+unfolding listed ones onesIn
+ones-listed zero x h = let z : x ≡ 0 = omega arith in rw z
+ones-listed (suc d) x h =
+    let s : x < 2 ^ d * 2 = rw (pow-suc 2 d) at h in
+    ones-step x ∙
+    ap (λ (n : ℕ). x % 2 + n) (ones-listed d (x / 2) (omega arith) ∙ sym (shifted (hasBit x) (hasBit (x / 2)) 0 d (bit-half x))) ∙
+    digit-counts (x % 2) (omega arith) 0 (listed (hasBit x) 1 d) ∙
+    ap (λ (b : Bool). length (cond b (0 ∷ listed (hasBit x) 1 d) (listed (hasBit x) 1 d))) (sym (bit-first x))
