@@ -41,7 +41,7 @@ fn mask_by(kind: u8, a: u8, b: u8, masks: &[u64; 256]) -> u64
     }
 }
 
-fn step(cs: &[u8], row: usize, masks: &[u64; 256]) -> u64
+pub fn step(cs: &[u8], row: usize, masks: &[u64; 256]) -> u64
     requires { ⌜ row * 4 + 4 ≤ length (now cs) ⌝ }
     ensures { λ r. ⌜ r ≡ maskBy (conditionRowAt (now (cs .entry)) row) (λ j. getD (now (masks .entry)) j 0) ⌝ }
 {
