@@ -101,3 +101,14 @@ keeps-knows NE = refl
 
 pub table-knows : (o : Operator) (a b a′ b′ : Value) → knows a a′ ≡ true → knows b b′ ≡ true → knows (table o a b) (table o a′ b′) ≡ true
 table-knows o = kept knows o (keeps-knows o)
+
+-- of two values that are set every operator makes one that is set
+setting : (o : Operator) → every₂ (λ a b. implies (isSet a) (implies (isSet b) (isSet (table o a b)))) ≡ true
+unfolding table
+setting AND = refl
+setting OR = refl
+setting EQ = refl
+setting NE = refl
+
+pub table-set : (o : Operator) (a b : Value) → isSet a ≡ true → isSet b ≡ true → isSet (table o a b) ≡ true
+table-set o a b p q = implied (implied (every₂-is (λ a b. implies (isSet a) (implies (isSet b) (isSet (table o a b)))) (setting o) a b) p) q
