@@ -9,18 +9,18 @@ use Rattle.conditions.specs.Operators.{Operator, AND, OR, EQ, NE, by, ta
 use Rattle.conditions.specs.Conditions.{isSet}
 
 -- a test of all values is a proof for every value
-abbrev every : (Value → Bool) → Bool
+abbrev pub every : (Value → Bool) → Bool
 every p = p Unset && p False && p True
 
-every-is : (p : Value → Bool) → every p ≡ true → (a : Value) → p a ≡ true
+pub every-is : (p : Value → Bool) → every p ≡ true → (a : Value) → p a ≡ true
 every-is p e Unset = and-l (p Unset) (p False) (and-l _ (p True) e)
 every-is p e False = and-r (p Unset) (p False) (and-l _ (p True) e)
 every-is p e True = and-r (p Unset && p False) (p True) e
 
-abbrev every₂ : (Value → Value → Bool) → Bool
+abbrev pub every₂ : (Value → Value → Bool) → Bool
 every₂ p = every (λ a. every (p a))
 
-every₂-is : (p : Value → Value → Bool) → every₂ p ≡ true → (a b : Value) → p a b ≡ true
+pub every₂-is : (p : Value → Value → Bool) → every₂ p ≡ true → (a b : Value) → p a b ≡ true
 every₂-is p e a b = every-is (p a) (every-is (λ a. every (p a)) e a) b
 
 abbrev same : Value → Value → Bool
