@@ -9,7 +9,7 @@ use native.Mathlib.Nat.{pow-suc}
 use lib.ListN.{length}
 use lib.Dec.{eqb}
 use borrow.Author.Tests.{eqb-true, eq-eqb}
-use Rattle.laws.proofs.Listed.{listed-has}
+use Rattle.laws.proofs.Listed.{listed-has, listed-under}
 use Rattle.laws.proofs.Tests.{self}
 use Rattle.calculus.specs.Status.{Value, Unset, False, True, Links, with-unset}
 use Rattle.calculus.specs.Order.{_⊑_, Condition2}
@@ -61,7 +61,7 @@ put l a v k = cond (eqb k l) a (v k)
 put-same : (l : ℕ) (a : Value) (v : Links) → put l a v l ≡ a
 put-same l a v = rw (self l) refl
 
-put-cases : (C : Value → Type 0) (l : ℕ) (a : Value) (v : Links) (k : ℕ) → (k ≡ l → C a) → C (v k) → C (put l a v k)
+pub put-cases : (C : Value → Type 0) (l : ℕ) (a : Value) (v : Links) (k : ℕ) → (k ≡ l → C a) → C (v k) → C (put l a v k)
 put-cases C l a v k p q = at (eqb k l) refl
   where
     at : (b : Bool) → eqb k l ≡ b → C (cond b a (v k))
@@ -120,7 +120,15 @@ module _ (val : Links → Value) (ls : List ℕ) (depends : (v w : Links) → ((
   pub numbers-decide-of : ((x l : ℕ) → Offends val ls x l → ⊥) ↔ Condition2 val
   numbers-decide-of = (none-offends, λ s x l o. offends-pair x l o s)
 
+-- the links of a condition are all that its value depends on, and are below m
+pub links-decide : (e : Evaluation) (m : ℕ) (c : Condition) → ((k : ℕ) → reached c k ≡ true → k < m) → (v w : Links) → ((k : ℕ) → List·Memᴰ k (linksOf m c) → v k ≡ w k) → value e c v ≡ value e c w
+unfolding linksOf
+links-decide e m c small v w h = value-reached e c v w (λ k r. h k (listed-has (reached c) 0 m k (omega arith) (omega (arith, small k r)) r))
+
+pub links-inside : (m : ℕ) (c : Condition) (k : ℕ) → List·Memᴰ k (linksOf m c) → k < m
+unfolding linksOf
+links-inside m c k h = omega (arith, listed-under (reached c) 0 m k h)
+
 -- THE NUMBERS DECIDE: a condition whose links are below m meets condition (2) exactly if no number offends.
 pub numbers-decide : (e : Evaluation) (m : ℕ) (c : Condition) → ((k : ℕ) → reached c k ≡ true → k < m) → ((x l : ℕ) → Offends (value e c) (linksOf m c) x l → ⊥) ↔ Condition2 (value e c)
-unfolding linksOf
-numbers-decide e m c small = numbers-decide-of (value e c) (linksOf m c) (λ v w h. value-reached e c v w (λ k r. h k (listed-has (reached c) 0 m k (omega arith) (omega (arith, small k r)) r)))
+numbers-decide e m c small = numbers-decide-of (value e c) (linksOf m c) (links-decide e m c small)

@@ -9,18 +9,18 @@ use Rattle.conditions.specs.Operators.{Operator, AND, OR, EQ, NE, by, ta
 use Rattle.conditions.specs.Conditions.{isSet}
 
 -- a test of all values is a proof for every value
-abbrev every : (Value → Bool) → Bool
+abbrev pub every : (Value → Bool) → Bool
 every p = p Unset && p False && p True
 
-every-is : (p : Value → Bool) → every p ≡ true → (a : Value) → p a ≡ true
+pub every-is : (p : Value → Bool) → every p ≡ true → (a : Value) → p a ≡ true
 every-is p e Unset = and-l (p Unset) (p False) (and-l _ (p True) e)
 every-is p e False = and-r (p Unset) (p False) (and-l _ (p True) e)
 every-is p e True = and-r (p Unset && p False) (p True) e
 
-abbrev every₂ : (Value → Value → Bool) → Bool
+abbrev pub every₂ : (Value → Value → Bool) → Bool
 every₂ p = every (λ a. every (p a))
 
-every₂-is : (p : Value → Value → Bool) → every₂ p ≡ true → (a b : Value) → p a b ≡ true
+pub every₂-is : (p : Value → Value → Bool) → every₂ p ≡ true → (a b : Value) → p a b ≡ true
 every₂-is p e a b = every-is (p a) (every-is (λ a. every (p a)) e a) b
 
 abbrev same : Value → Value → Bool
@@ -101,3 +101,14 @@ keeps-knows NE = refl
 
 pub table-knows : (o : Operator) (a b a′ b′ : Value) → knows a a′ ≡ true → knows b b′ ≡ true → knows (table o a b) (table o a′ b′) ≡ true
 table-knows o = kept knows o (keeps-knows o)
+
+-- of two values that are set every operator makes one that is set
+setting : (o : Operator) → every₂ (λ a b. implies (isSet a) (implies (isSet b) (isSet (table o a b)))) ≡ true
+unfolding table
+setting AND = refl
+setting OR = refl
+setting EQ = refl
+setting NE = refl
+
+pub table-set : (o : Operator) (a b : Value) → isSet a ≡ true → isSet b ≡ true → isSet (table o a b) ≡ true
+table-set o a b p q = implied (implied (every₂-is (λ a b. implies (isSet a) (implies (isSet b) (isSet (table o a b)))) (setting o) a b) p) q

@@ -6,17 +6,17 @@ use mathlib.Core.Logic.{inl, inr, by-cases}
 use native.Mathlib.Omega.{arith}
 use native.Mathlib.Decide.{decLt}
 use lib.Dec.{ltb}
-use borrow.Author.Tests.{ne-eqb, lt-ltb, ltb-true}
+use borrow.Author.Tests.{lt-ltb, ltb-true}
 use Rattle.laws.specs.Up.{below}
 use Rattle.laws.proofs.Tests.{and-l, and-r, not-both}
-use Rattle.laws.proofs.Up.{up-at, below-in, below-out}
+use Rattle.laws.proofs.Up.{below-in, below-out}
 use Rattle.calculus.specs.Process.{Process, Prefix, Branching}
 use Rattle.calculus.specs.Places.{Place, row, here}
 use Rattle.steps.specs.Rows.{Row, NIL, PREFIX, BRANCH, Kids, Child, Once}
 use Rattle.steps.specs.Marks.{Marks, Stand, waits, passed, dropped, stand, Open, both, left, right, open-branches, afterMark, afterTaken}
-use Rattle.steps.specs.InFront.{parentOf, rightOf, waitsBy, waiting, passedBy, opens, leads, reachedBy, reached, inFront}
+use Rattle.steps.specs.InFront.{parentOf, rightOf, waitsBy, waiting, passedBy, opens, leads, reached, inFront}
 use Rattle.steps.proofs.Tree.{child-above, row-induction}
-use Rattle.steps.proofs.Parents.{parent-child, parent-is}
+use Rattle.steps.proofs.Parents.{parent-child, parent-is, inherited-at, inherited-root}
 use Rattle.steps.proofs.Remainder.{remainderBy, remainderOf, remainder-at}
 
 -- the words for marks
@@ -34,12 +34,12 @@ passed-is dropped e = absurd (true≢false (sym e))
 
 module _ (node : ℕ → Row) (μ : Marks) where
   reached-at : (j : ℕ) → 0 < j → reached node μ j ≡ (below false (reached node μ) j (parentOf node j) && leads (node (parentOf node j)) (μ (parentOf node j)) (rightOf node j))
-  unfolding reached reachedBy
-  reached-at j h = up-at false (reachedBy node μ) j ∙ rw (ne-eqb j 0 (λ e. omega arith))
+  unfolding reached
+  reached-at j h = inherited-at node false true (λ p s b. b && leads (node p) (μ p) s) j h
 
   pub reached-root : reached node μ 0 ≡ true
-  unfolding reached reachedBy
-  reached-root = up-at false (reachedBy node μ) 0
+  unfolding reached
+  reached-root = inherited-root node false true (λ p s b. b && leads (node p) (μ p) s)
 
   -- one reaches a row from its parent
   pub reached-parent : (j : ℕ) → 0 < j → reached node μ j ≡ true → (parentOf node j < j) × (reached node μ (parentOf node j) ≡ true) × (leads (node (parentOf node j)) (μ (parentOf node j)) (rightOf node j) ≡ true)

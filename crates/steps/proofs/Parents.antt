@@ -1,16 +1,18 @@
 -- The parent of a row: found where some row names it, and the one row that does. Assumes nothing.
 use Prim.Native.Nat.{ℕ, _+_, _<_}
-use mathlib.Core.Path.{_≡_, refl, sym, ap}
+use mathlib.Core.Path.{_≡_, refl, sym, ap, _∙_}
 use mathlib.Core.Bool.{Bool, true, false, not}
 use mathlib.Core.Logic.{⊎-elim}
 use native.Mathlib.Omega.{arith}
 use lib.Dec.{eqb}
-use borrow.Author.Tests.{eqb-true, eq-eqb}
+use borrow.Author.Tests.{eqb-true, eq-eqb, ne-eqb}
 use Rattle.laws.specs.Lowest.{lowest}
 use Rattle.laws.proofs.Tests.{not-both, or-true, or-l, or-r}
 use Rattle.laws.proofs.Lowest.{lowest-at, lowest-found}
+use Rattle.laws.specs.Up.{below}
+use Rattle.laws.proofs.Up.{up-at, below-in}
 use Rattle.steps.specs.Rows.{Row, NIL, PREFIX, BRANCH, firstOf, secondOf, Kids, Child, Once}
-use Rattle.steps.specs.InFront.{names, parentOf, rightOf}
+use Rattle.steps.specs.InFront.{names, parentOf, rightOf, inheritedBy, inherited}
 use Rattle.steps.proofs.Tree.{child-above}
 
 -- children by number
@@ -72,3 +74,20 @@ module _ (node : ℕ → Row) where
         let (a, b) = child-above i n j (node i) s (kids i h) c in
         let f : parentOf node j < j = named-found i j s a c in
         once (parentOf node j) i (rightOf node j) s j (omega arith) h (parent-child j f) c
+
+-- what a row takes over from its parent
+module _ {A : Type 0} (node : ℕ → Row) (none top : A) (next : ℕ → Bool → A → A) where
+  pub inherited-root : inherited node none top next 0 ≡ top
+  unfolding inherited inheritedBy
+  inherited-root = up-at none (inheritedBy node none top next) 0
+
+  pub inherited-at : (j : ℕ) → 0 < j → inherited node none top next j ≡ next (parentOf node j) (rightOf node j) (below none (inherited node none top next) j (parentOf node j))
+  unfolding inherited inheritedBy
+  inherited-at j h = up-at none (inheritedBy node none top next) j ∙ rw (ne-eqb j 0 (λ e. omega arith))
+
+  -- ... from the one row that names it
+  pub inherited-child : (n : ℕ) → ((i : ℕ) → i < n → Kids i n (node i)) → Once node n → (i j : ℕ) (s : Bool) → i < n → Child (node i) s j → inherited node none top next j ≡ next i s (inherited node none top next i)
+  inherited-child n kids once i j s h c =
+      let (p, q) = parent-is node n kids once i j s h c in
+      let (a, b) = child-above i n j (node i) s (kids i h) c in
+      inherited-at j (omega arith) ∙ rw (p, q, below-in none (inherited node none top next) j i a) refl

@@ -1,0 +1,58 @@
+-- The laws of a table of values that is filled in rising order. Assumes nothing.
+use Prim.Native.Nat.{ℕ, zero, suc, _+_, _<_}
+use mathlib.Core.Path.{_≡_, refl, sym, _∙_, ap, fun-ext}
+use mathlib.Core.Bool.{Bool, true, false, cond}
+use mathlib.Core.List.{List, [], _∷_}
+use native.Mathlib.Omega.{arith}
+use lib.Dec.{ltb}
+use lib.ListN.{getD, length, set, replicate, length-set}
+use Rattle.laws.specs.Up.{below, Filled}
+use Rattle.laws.proofs.Up.{filled-none, filled-more, filled-at}
+use Rattle.calculus.specs.Status.{Links}
+use Rattle.conditions.specs.Conditions.{constant, condition, value}
+use Rattle.conditions.specs.Numbers.{digit, undigit}
+use Rattle.conditions.specs.ByRows.{valueBy}
+use Rattle.conditions.proofs.Numbers.{undigit-digit}
+use Rattle.conditions.proofs.ByRows.{value-false, value-at}
+use Rattle.sheet.specs.Table.{conditionRowAt, evaluationOf, evalOf}
+use Rattle.evaluate.specs.Values.{Evaluated}
+
+-- an element that is there is the same whatever stands for one that is not
+pub getD-any : (t : List ℕ) (j d d′ : ℕ) → j < length t → getD t j d ≡ getD t j d′
+getD-any [] j d d′ h = absurd (let z : ⊥ = omega arith in z)
+getD-any (x ∷ t) zero d d′ h = refl
+getD-any (x ∷ t) (suc j) d d′ h = getD-any t j d d′ (omega arith)
+
+module _ (e : ℕ) (cs : List ℕ) (v : Links) where
+  abbrev numberAt : ℕ → ℕ
+  numberAt row = digit (evalOf e cs row v)
+
+  sees : (row j : ℕ) → undigit (below 1 numberAt row j) ≡ value (evaluationOf e) (below (constant false) (condition (conditionRowAt cs)) row j) v
+  unfolding below undigit
+  sees row j = at (ltb j row)
+    where
+      at : (t : Bool) → undigit (cond t (numberAt j) 1) ≡ value (evaluationOf e) (cond t (condition (conditionRowAt cs) j) (constant false)) v
+      at true = undigit-digit _
+      at false = sym (value-false (evaluationOf e) v)
+
+  -- what a step finds is the row's value
+  found : (row : ℕ) (t : List ℕ) → Filled 1 numberAt row t → valueBy (evaluationOf e) (conditionRowAt cs row) v (λ j. undigit (getD t j 1)) ≡ evalOf e cs row v
+  unfolding Filled
+  found row t f = ap (valueBy (evaluationOf e) (conditionRowAt cs row) v) (fun-ext (λ j. ap undigit (f j) ∙ sees row j)) ∙ sym (value-at (evaluationOf e) (conditionRowAt cs) row v)
+
+  pub evaluated-none : Evaluated e cs v 0 (replicate 256 1)
+  unfolding Evaluated
+  evaluated-none = (refl, filled-none 1 numberAt 256)
+
+  module _ (k : ℕ) (vals : List ℕ) (s : Evaluated e cs v k vals) where
+    pub evaluated-long : length vals ≡ 256
+    unfolding Evaluated
+    evaluated-long = s .0
+
+    pub evaluated-more : (x : ℕ) → k < 256 → x ≡ digit (valueBy (evaluationOf e) (conditionRowAt cs k) v (λ j. undigit (getD vals j 1))) → Evaluated e cs v (k + 1) (set vals k x)
+    unfolding Evaluated
+    evaluated-more x h q = (length-set vals k x ∙ s .0, filled-more 1 numberAt k vals x (omega (arith, s .0)) (q ∙ ap digit (found k vals (s .1))) (s .1))
+
+    pub evaluated-at : (row : ℕ) → row < k → row < 256 → getD vals row 0 ≡ digit (evalOf e cs row v)
+    unfolding Evaluated
+    evaluated-at row h g = getD-any vals row 0 1 (omega (arith, s .0)) ∙ filled-at 1 numberAt k vals row (s .1) h
