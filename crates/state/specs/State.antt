@@ -1,0 +1,26 @@
+-- Document 01, "State and steps": a fresh state and the four changes.
+use mathlib.Core.Bool.{Bool, true, false}
+use Prim.Native.Nat.{ℕ}
+use lib.ListN.{set, replicate}
+use Rattle.state.specs.declared.State.{State}
+
+-- "A fresh state has 0 in all places but the mode."
+abbrev pub freshOf : ℕ → State
+freshOf m = record { mode = m; marks = replicate 256 0; links = replicate 64 0 }
+
+-- 1 passed, 4 dropped; 2 left taken, 3 right taken
+abbrev pub passOf : State → ℕ → State
+passOf s row = record { mode = s .mode; marks = set (s .marks) row 1; links = s .links }
+
+abbrev pub dropOf : State → ℕ → State
+dropOf s row = record { mode = s .mode; marks = set (s .marks) row 4; links = s .links }
+
+abbrev pub sideMark : Bool → ℕ
+sideMark true = 3
+sideMark false = 2
+
+abbrev pub decideOf : State → ℕ → Bool → State
+decideOf s row right = record { mode = s .mode; marks = set (s .marks) row (sideMark right); links = s .links }
+
+abbrev pub setOf : State → ℕ → ℕ → State
+setOf s link value = record { mode = s .mode; marks = s .marks; links = set (s .links) link value }
