@@ -1,8 +1,7 @@
 -- Strict evaluation, which document 01 defines by the links reached, is also given operator by operator; so both evaluations go row by row. Assumes nothing.
 use Prim.Native.Nat.{ℕ}
-use mathlib.Core.Path.{_≡_, refl, sym, _∙_, ap, ap₂}
+use mathlib.Core.Path.{_≡_, refl, _∙_, ap}
 use mathlib.Core.Bool.{Bool, true, false, cond, _&&_}
-use lib.Dec.{ltb}
 use Rattle.laws.specs.Up.{below}
 use Rattle.laws.proofs.Tests.{and-l, and-r}
 use Rattle.calculus.specs.Status.{Value, Unset, False, True, Links, truth}

@@ -12,14 +12,11 @@ use Rattle.laws.specs.Tally.{bumped, Tally}
 use Rattle.laws.specs.Up.{Filled}
 use Rattle.laws.specs.Checks.{Holds}
 use Rattle.laws.specs.Listed.{listed}
-use Rattle.laws.proofs.Tests.{cond-all}
 use Rattle.laws.proofs.Sums.{sum-more}
 use Rattle.laws.proofs.Tally.{tally-none, tally-bump, tally-same, length-bumped, tally-once, tally-few}
 use Rattle.laws.proofs.Up.{filled-at}
-use Rattle.calculus.specs.Process.{act, out, join, pick, flow}
+use Rattle.calculus.specs.Process.{act, out, join}
 use Rattle.calculus.specs.Places.{own}
-use Rattle.conditions.specs.Conditions.{condition}
-use Rattle.conditions.specs.Numbers.{linksOf}
 use Rattle.steps.specs.Rows.{Row, NIL, PREFIX, BRANCH, firstOf, secondOf, isSource}
 use Rattle.reach.specs.Masks.{hasBit, maskAt}
 use Rattle.reach.proofs.Links.{mask-width}

@@ -3,12 +3,15 @@ use Prim.Native.Nat.{ℕ, _+_, _-_, _<_, _≤_}
 use mathlib.Core.Path.{_≡_, refl, sym, _∙_, ap}
 use mathlib.Core.Bool.{true, false, cond}
 use mathlib.Core.List.{List, [], _∷_, _++_}
+use mathlib.Core.Logic.{by-cases}
 use native.Mathlib.Omega.{arith}
+use native.Mathlib.Decide.{decLt}
 use lib.Dec.{ltb}
 use borrow.Author.Tests.{lt-ltb, le-ltb}
 use Rattle.laws.specs.Lowest.{lowest}
-use Rattle.laws.specs.Checks.{Check, placeOf, Holds, checked}
-use Rattle.laws.proofs.Lowest.{lowest-below, lowest-more, lowest-stop, lowest-end, lowest-none}
+use Rattle.laws.specs.Checks.{Check, placeOf, Holds, checked, AllHold}
+use Rattle.laws.proofs.Tests.{not-both, cond-map}
+use Rattle.laws.proofs.Lowest.{lowest-from, lowest-at, lowest-below, lowest-more, lowest-stop, lowest-end}
 
 module _ {A : Type 0} (refuse : ℕ → ℕ → A) (good : A) (c : Check) (cs : List Check) (p : ℕ) (at : p ≡ placeOf c) where
   pub checked-fails : p < c .upto → refuse (c .number) p ≡ checked refuse good (c ∷ cs)
@@ -25,14 +28,10 @@ unfolding checked
 checked-append refuse good [] ds = refl
 checked-append refuse good (c ∷ cs) ds = ap (cond (ltb (placeOf c) (c .upto)) (refuse (c .number) (placeOf c))) (checked-append refuse good cs ds)
 
--- a check's place is its end exactly if it holds
+-- a check whose place is its end holds
 pub place-holds : (c : Check) (p : ℕ) → p ≡ placeOf c → c .upto ≤ p → Holds c
 unfolding placeOf
 place-holds c p at h q low high = lowest-below (c .rule) (c .from) (c .upto - c .from) q low (omega arith)
-
-pub holds-place : (c : Check) → c .from ≤ c .upto → Holds c → placeOf c ≡ c .upto
-unfolding placeOf
-holds-place c h f = lowest-none (c .rule) (c .from) (c .upto - c .from) (λ j a b. f j a (omega arith)) ∙ (omega arith)
 
 -- A scan that has come to place i: nothing below i broke the rule. The invariant of every check's loop, and its four laws.
 unfoldable pub Scanned : Check → ℕ → Type 0
@@ -54,3 +53,32 @@ module _ (c : Check) (i : ℕ) (s : Scanned c i) where
   pub scanned-end : c .upto ≤ i → i ≡ placeOf c
   unfolding Scanned
   scanned-end h = sym (s ∙ lowest-end (c .rule) i (c .upto) h)
+
+-- the answer of one call in the words of another
+pub checked-map : {A B : Type 0} (f : A → B) (refuse : ℕ → ℕ → A) (good : A) (cs : List Check) → f (checked refuse good cs) ≡ checked (λ n p. f (refuse n p)) (f good) cs
+unfolding checked
+checked-map f refuse good [] = refl
+checked-map f refuse good (c ∷ cs) = cond-map f (ltb (placeOf c) (c .upto)) _ _ ∙ ap (cond (ltb (placeOf c) (c .upto)) (f (refuse (c .number) (placeOf c)))) (checked-map f refuse good cs)
+
+-- a check that holds has no place before its end
+pub holds-end : (c : Check) → Holds c → c .upto ≤ placeOf c
+unfolding placeOf
+holds-end c h =
+    by-cases (decLt (lowest (c .rule) (c .from) (c .upto - c .from)) (c .upto))
+    (λ g. let l = lowest-from (c .rule) (c .from) (c .upto - c .from) in absurd (not-both (h _ l g) (lowest-at (c .rule) (c .from) (c .upto - c .from) (omega arith))))
+    (λ g. omega arith)
+
+-- what is not refused meets every check ...
+pub unrefused : {A : Type 0} (refuse : ℕ → ℕ → A) (good : A) (cs : List Check) → ((n p : ℕ) → checked refuse good cs ≡ refuse n p → ⊥) → AllHold cs
+unfolding AllHold
+unrefused refuse good [] h = tt
+unrefused refuse good (c ∷ cs) h =
+    by-cases (decLt (placeOf c) (c .upto))
+    (λ g. absurd (h (c .number) (placeOf c) (sym (checked-fails refuse good c cs (placeOf c) refl g))))
+    (λ g. let e : c .upto ≤ placeOf c = omega arith in (place-holds c (placeOf c) refl e, unrefused refuse good cs (λ n p z. h n p (sym (checked-holds refuse good c cs (placeOf c) refl e) ∙ z))))
+
+-- ... and what meets every check is not refused
+pub all-hold : {A : Type 0} (refuse : ℕ → ℕ → A) (good : A) (cs : List Check) → AllHold cs → checked refuse good cs ≡ good
+unfolding AllHold checked
+all-hold refuse good [] h = refl
+all-hold refuse good (c ∷ cs) h = sym (checked-holds refuse good c cs (placeOf c) refl (holds-end c (h .0))) ∙ all-hold refuse good cs (h .1)

@@ -31,6 +31,10 @@ pub cond-all : {A : Type 0} (C : A → Type 0) (b : Bool) {x y : A} → C x → 
 cond-all C true p q = p
 cond-all C false p q = q
 
+pub cond-map : {A B : Type 0} (f : A → B) (b : Bool) (x y : A) → f (cond b x y) ≡ cond b (f x) (f y)
+cond-map f true x y = refl
+cond-map f false x y = refl
+
 -- the first side is asked only where the test holds
 pub cond-same : {A : Type 0} (b : Bool) {x y : A} (d : A) → (b ≡ true → x ≡ y) → cond b x d ≡ cond b y d
 cond-same true d h = h refl

@@ -1,33 +1,30 @@
 -- ACCEPTANCE gives the theory and the calls what they rest on. Assumes nothing.
-use Prim.Native.Nat.{ℕ, zero, suc, _+_, _*_, _<_, _≤_}
-use mathlib.Core.Path.{_≡_, refl, sym, _∙_, ap, subst}
-use mathlib.Core.Bool.{Bool, true, false, cond, _&&_, true≢false}
+use Prim.Native.Nat.{ℕ, zero, suc, _*_, _<_, _≤_}
+use mathlib.Core.Path.{_≡_, refl, sym, _∙_, ap}
+use mathlib.Core.Bool.{Bool, true, false, cond, true≢false}
 use mathlib.Core.List.{List, [], _∷_}
-use mathlib.Core.Logic.{_⊎_, inl, inr, ⊎-elim, by-cases}
+use mathlib.Core.Logic.{⊎-elim, by-cases}
 use native.Mathlib.Omega.{arith}
 use native.Mathlib.Decide.{ℕ-discrete, decLt}
 use lib.Dec.{eqb, leb}
 use lib.ListN.{length}
 use borrow.Author.Tests.{leb-true, eqb-true, eq-eqb}
-use Rattle.laws.specs.Tests.{or}
 use Rattle.laws.specs.Up.{below}
-use Rattle.laws.specs.Sums.{sum, count}
+use Rattle.laws.specs.Sums.{count}
 use Rattle.laws.specs.Checks.{Check, placeOf, Holds, checked}
-use Rattle.laws.proofs.Tests.{cases, and-l, and-r, or-true, self}
+use Rattle.laws.proofs.Tests.{and-l, and-r, or-true, self}
 use Rattle.laws.proofs.Up.{below-in, below-out}
 use Rattle.laws.proofs.Sums.{sum-has, sum-two, sum-some}
 use Rattle.laws.proofs.Checks.{checked-fails, checked-holds, place-holds}
-use Rattle.calculus.specs.Process.{out, join}
 use Rattle.calculus.specs.Places.{own}
 use Rattle.conditions.specs.Conditions.{Condition, constant, ConditionRow, FALSE, TRUE, LINK, OP, conditionBy, condition, reached}
-use Rattle.conditions.specs.Numbers.{linksOf}
 use Rattle.conditions.proofs.Evaluation.{condition-at}
-use Rattle.steps.specs.Rows.{Row, PREFIX, firstOf, secondOf, Kids, Child, Once, Named, isSource, OutRow, OneSource, Tree}
+use Rattle.steps.specs.Rows.{Row, firstOf, secondOf, Kids, Child, Once, Named, isSource, OutRow}
 use Rattle.steps.proofs.Tree.{child-above}
 use Rattle.steps.proofs.Parents.{childAt, child-number, number-child}
 use Rattle.sheet.specs.declared.Refusal.{Refusal}
 use Rattle.sheet.specs.Table.{Table, rowAt, conditionRowAt}
-use Rattle.sheet.specs.Rules.{sized, settled, conditionOk, termOk, same, namings, timesNamed, sources, narrowPrefix, narrowRow, sizes, settings, conditions, terms, tree, oneSource, narrow, from3, from4, from5, from6, from7, from8, tableChecks, refuse, refusalOf}
+use Rattle.sheet.specs.Rules.{sized, settled, same, namings, timesNamed, sources, narrowPrefix, narrowRow, sizes, settings, conditions, terms, tree, oneSource, narrow, from3, from4, from5, from6, from7, from8, refuse, refusalOf}
 use Rattle.sheet.specs.Accepted.{WellFormed, SingleSource, Narrow}
 use Rattle.sheet.proofs.Rows.{PrefixOk, RowOk, term-row, row-kids, row-source, LinkOk, condition-row}
 
@@ -188,3 +185,11 @@ module _ (t : Table) (g : Meets t) where
   pub narrow-joins : Narrow t
   unfolding narrowRow narrowPrefix
   narrow-joins i q c h e = leb-true _ 8 (rw e at (g .rule-8 i (omega arith) h))
+
+-- what a judge's answer gives
+module _ (t : Table) (r : Refusal) (told : r ≡ refusalOf t) (none : r .number ≡ 0) where
+  pub accepted-meets : Meets t
+  accepted-meets = meets t (ap (λ (r : Refusal). r .number) (sym told) ∙ none)
+
+  pub accepted-form : WellFormed t
+  accepted-form = well-formed t accepted-meets

@@ -1,6 +1,6 @@
 use Rattle.judge.proofs.Counts.{term-read}
 use mathlib.Core.Path.{_≡_}
-use mathlib.Core.Path.{sym, _∙_}
+use mathlib.Core.Path.{_∙_}
 use Prim.Native.Nat.{_-_, _≤_}
 use borrow.Author.Tests.{not-true, not-false}
 use Rattle.laws.proofs.Checks.{Scanned, scanned-none, scanned-more, scanned-stop, scanned-end}

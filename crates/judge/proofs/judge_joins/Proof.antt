@@ -1,5 +1,4 @@
 use Rattle.judge.proofs.Chain.{fails, holds-last}
-use borrow.Author.Needs.{needs}
 use Rattle.judge.proofs.judge_joins.Statement.{statement}
 use Rattle.judge.proofs.judge_joins.Tie as tie
 use Rattle.judge.proofs.judge_joins.Reads as reads

@@ -1,6 +1,5 @@
 use mathlib.Core.Path.{_∙_}
 use Rattle.judge.proofs.Chain.{evaluation-fails, links-fails, settings-hold}
-use borrow.Author.Needs.{needs}
 use Rattle.judge.proofs.judge_settings.Statement.{statement}
 use Rattle.judge.proofs.judge_settings.Tie as tie
 use Rattle.judge.proofs.judge_settings.Reads as reads

@@ -1,6 +1,5 @@
 use mathlib.Core.Path.{_∙_}
 use Rattle.judge.proofs.Chain.{fails, holds}
-use borrow.Author.Needs.{needs}
 use Rattle.judge.proofs.judge_sources.Statement.{statement}
 use Rattle.judge.proofs.judge_sources.Tie as tie
 use Rattle.judge.proofs.judge_sources.Reads as reads

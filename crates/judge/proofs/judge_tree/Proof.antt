@@ -1,6 +1,5 @@
 use mathlib.Core.Path.{_∙_}
 use Rattle.judge.proofs.Chain.{fails, holds}
-use borrow.Author.Needs.{needs}
 use Rattle.judge.proofs.judge_tree.Statement.{statement}
 use Rattle.judge.proofs.judge_tree.Tie as tie
 use Rattle.judge.proofs.judge_tree.Reads as reads

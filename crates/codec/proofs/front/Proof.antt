@@ -1,0 +1,68 @@
+use Rattle.sheet.specs.Sheet.{front}
+use mathlib.Core.Path.{refl}
+use borrow.Author.Needs.{needs}
+use Rattle.codec.proofs.front.Statement.{statement}
+use Rattle.codec.proofs.front.Tie as tie
+use Rattle.codec.proofs.front.Reads as reads
+use Rattle.codec.proofs.front.Lts as lts
+
+-- src/lib.rt:192:13
+mul-t : tie.Need-mul-t
+mul-t c = search needs
+
+-- src/lib.rt:193:13
+mul-c : tie.Need-mul-c
+mul-c c = search needs
+
+-- src/lib.rt:194:17
+add-start : tie.Need-add-start
+add-start c = search needs
+
+-- src/lib.rt:205:9
+cast-t6 : tie.Need-cast-t6
+cast-t6 c = search needs
+
+-- src/lib.rt:206:9
+cast-t8 : tie.Need-cast-t8
+cast-t8 c = search needs
+
+-- src/lib.rt:208:9
+cast-t10 : tie.Need-cast-t10
+cast-t10 c = search needs
+
+-- src/lib.rt:209:9
+cast-t12 : tie.Need-cast-t12
+cast-t12 c = search needs
+
+-- src/lib.rt:210:9
+cast-t14 : tie.Need-cast-t14
+cast-t14 c = search needs
+
+-- src/lib.rt:211:9
+cast-t16 : tie.Need-cast-t16
+cast-t16 c = search needs
+
+-- src/lib.rt:213:9
+cast-t17 : tie.Need-cast-t17
+cast-t17 c = search needs
+
+-- src/lib.rt:188:1
+returns : tie.Need-returns
+unfolding front
+returns c = refl
+
+pub front-spec : {M : Type 1} → statement M
+front-spec =
+    tie.close
+    (tie.spec
+    mul-t
+    mul-c
+    add-start
+    cast-t6
+    cast-t8
+    cast-t10
+    cast-t12
+    cast-t14
+    cast-t16
+    cast-t17
+    returns)
