@@ -64,7 +64,8 @@ fn is_sound(h: Head, ts: &[u8], cs: &[u8], masks: &[u64; 256], seen: &[u8; 256],
         return true;
     }
     let mask = mask_of(masks, c);
-    failure::passes(h.evaluation, h.m, cs, wide(c), mask)
+    let passed = failure::passes(h.evaluation, h.m, cs, wide(c), mask);
+    passed
 }
 
 // The failure of JOIN row j.
