@@ -8,12 +8,11 @@ use lib.Dec.{ltb}
 use lib.ListN.{getD, length, set, replicate, length-set}
 use Rattle.laws.specs.Up.{below, Filled}
 use Rattle.laws.proofs.Up.{filled-none, filled-more, filled-at}
-use Rattle.calculus.specs.Status.{Links}
-use Rattle.conditions.specs.Conditions.{constant, condition, value}
+use Rattle.calculus.specs.Status.{False, Links}
 use Rattle.conditions.specs.Numbers.{digit, undigit}
 use Rattle.conditions.specs.ByRows.{valueBy}
 use Rattle.conditions.proofs.Numbers.{undigit-digit}
-use Rattle.conditions.proofs.ByRows.{value-false, value-at}
+use Rattle.conditions.proofs.ByRows.{value-at}
 use Rattle.sheet.specs.Table.{conditionRowAt, evaluationOf, evalOf}
 use Rattle.evaluate.specs.Values.{Evaluated}
 
@@ -27,13 +26,13 @@ module _ (e : ℕ) (cs : List ℕ) (v : Links) where
   abbrev numberAt : ℕ → ℕ
   numberAt row = digit (evalOf e cs row v)
 
-  sees : (row j : ℕ) → undigit (below 1 numberAt row j) ≡ value (evaluationOf e) (below (constant false) (condition (conditionRowAt cs)) row j) v
+  sees : (row j : ℕ) → undigit (below 1 numberAt row j) ≡ below False (λ q. evalOf e cs q v) row j
   unfolding below undigit
   sees row j = at (ltb j row)
     where
-      at : (t : Bool) → undigit (cond t (numberAt j) 1) ≡ value (evaluationOf e) (cond t (condition (conditionRowAt cs) j) (constant false)) v
+      at : (t : Bool) → undigit (cond t (numberAt j) 1) ≡ cond t (evalOf e cs j v) False
       at true = undigit-digit _
-      at false = sym (value-false (evaluationOf e) v)
+      at false = refl
 
   -- what a step finds is the row's value
   found : (row : ℕ) (t : List ℕ) → Filled 1 numberAt row t → valueBy (evaluationOf e) (conditionRowAt cs row) v (λ j. undigit (getD t j 1)) ≡ evalOf e cs row v

@@ -19,7 +19,7 @@ const TABLES: [[[u8; 3]; 3]; 4] = [
     [[0, 0, 0], [0, 1, 2], [0, 2, 1]],
 ];
 
-fn is_lazy(evaluation: u8) -> bool
+pub fn is_lazy(evaluation: u8) -> bool
     ensures { λ r. ⌜ r ≡ lazyOf evaluation ⌝ }
 {
     evaluation == 1

@@ -4,6 +4,7 @@ use mathlib.Core.Bool.{Bool, true, false}
 use mathlib.Core.Logic.{⊎-elim, by-cases}
 use Prim.Native.Nat.{ℕ, zero, suc, _+_, _-_, _≤_, _<_}
 use native.Mathlib.Omega.{arith}
+use native.Mathlib.Nat.{sub-zero}
 use native.Mathlib.Numerals.{add-one}
 use native.Mathlib.Decide.{ℕ-discrete}
 use Rattle.laws.specs.Lowest.{lowest}
@@ -68,3 +69,24 @@ pub lowest-same : (p q : ℕ → Bool) (i c : ℕ) → ((j : ℕ) → i ≤ j �
 unfolding lowest
 lowest-same p q i zero h = refl
 lowest-same p q i (suc c) h = rw (h i (omega arith) (omega arith), lowest-same p q (suc i) c (λ j a b. h j (omega arith) (omega arith)))
+
+-- A search that has come to i: below i the test held. The invariant of a search loop, and its four laws.
+unfoldable pub Searched : (ℕ → Bool) → ℕ → ℕ → Type 0
+Searched p n i = lowest p 0 n ≡ lowest p i (n - i)
+
+pub searched-none : (p : ℕ → Bool) (n : ℕ) → Searched p n 0
+unfolding Searched
+searched-none p n = rw sub-zero
+
+module _ (p : ℕ → Bool) (n i : ℕ) (s : Searched p n i) where
+  pub searched-more : i < n → p i ≡ true → Searched p n (i + 1)
+  unfolding Searched
+  searched-more h e = s ∙ lowest-more p i n h e
+
+  pub searched-stop : i < n → p i ≡ false → i ≡ lowest p 0 n
+  unfolding Searched
+  searched-stop h e = sym (s ∙ lowest-stop p i n h e)
+
+  pub searched-end : n ≤ i → i ≡ lowest p 0 n
+  unfolding Searched
+  searched-end h = sym (s ∙ lowest-end p i n h)

@@ -1,21 +1,23 @@
 -- The binary digits of a number, of a power of two, of two numbers joined, and how many are set. Assumes nothing.
-use Prim.Native.Nat.{ℕ, zero, suc, _+_, _-_, _*_, _/_, _%_, _^_, _<_, max}
-use mathlib.Core.Path.{_≡_, refl, sym, _∙_, ap}
-use mathlib.Core.Bool.{Bool, true, false, cond}
+use Prim.Native.Nat.{ℕ, zero, suc, _+_, _-_, _*_, _/_, _%_, _^_, _<_, min, max}
+use mathlib.Core.Path.{_≡_, refl, sym, _∙_, ap, ap₂}
+use mathlib.Core.Bool.{Bool, true, false, cond, _&&_, true≢false}
 use mathlib.Core.List.{List, _∷_}
 use native.Mathlib.Omega.{arith}
 use native.Mathlib.Decide.{decLt}
 use native.Mathlib.Nat.{div-eq-of-lt, div-self, div-one, pow-suc, mul-comm, div-div-eq-div-mul}
 use lib.Dec.{eqb}
 use lib.ListN.{length}
-use lib.Bits.{bitOr, or-shr, or-step}
-use lib.Pow.{pow-lt, pow-add, shl-shr, pow-pos}
+use lib.Bits.{bitAnd, bitOr, and-shr, or-shr, and-step, or-step}
+use lib.Arith.{digits-div}
+use lib.Pow.{pow-lt, pow-add, shl-shr, pow-pos, ones-split}
 use lib.Count.{ones, onesIn, ones-step}
 use borrow.Author.Tests.{eq-eqb, ne-eqb}
 use Rattle.laws.specs.Tests.{or}
 use Rattle.laws.specs.Listed.{listed}
 use Rattle.reach.specs.Masks.{hasBit}
 
+-- two digits joined are a digit
 or-digit : (p q : ℕ) → p < 2 → q < 2 → (eqb (max p q) 1 ≡ or (eqb p 1) (eqb q 1)) × (max p q < 2)
 unfolding or
 or-digit zero zero h k = (refl, h)
@@ -26,10 +28,25 @@ or-digit (suc zero) (suc zero) h k = (refl, h)
 or-digit (suc zero) (suc (suc q)) h k = absurd (let z : ⊥ = omega arith in z)
 or-digit (suc (suc p)) q h k = absurd (let z : ⊥ = omega arith in z)
 
+and-digit : (p q : ℕ) → p < 2 → q < 2 → (eqb (min p q) 1 ≡ (eqb p 1 && eqb q 1)) × (min p q < 2)
+and-digit zero zero h k = (refl, h)
+and-digit zero (suc zero) h k = (refl, h)
+and-digit zero (suc (suc q)) h k = absurd (let z : ⊥ = omega arith in z)
+and-digit (suc zero) zero h k = (refl, k)
+and-digit (suc zero) (suc zero) h k = (refl, h)
+and-digit (suc zero) (suc (suc q)) h k = absurd (let z : ⊥ = omega arith in z)
+and-digit (suc (suc p)) q h k = absurd (let z : ⊥ = omega arith in z)
+
 or-low : (x y : ℕ) → bitOr x y % 2 ≡ max (x % 2) (y % 2)
 or-low x y =
     let s : bitOr x y ≡ bitOr (x / 2) (y / 2) * 2 + max (x % 2) (y % 2) = or-step x y in
     let m : max (x % 2) (y % 2) < 2 = or-digit (x % 2) (y % 2) (omega arith) (omega arith) .1 in
+    omega arith
+
+and-low : (x y : ℕ) → bitAnd x y % 2 ≡ min (x % 2) (y % 2)
+and-low x y =
+    let s : bitAnd x y ≡ bitAnd (x / 2) (y / 2) * 2 + min (x % 2) (y % 2) = and-step x y in
+    let m : min (x % 2) (y % 2) < 2 = and-digit (x % 2) (y % 2) (omega arith) (omega arith) .1 in
     omega arith
 
 pub bit-or : (a b l : ℕ) → hasBit (bitOr a b) l ≡ or (hasBit a l) (hasBit b l)
@@ -38,6 +55,13 @@ bit-or a b l =
     ap (λ (x : ℕ). eqb (x % 2) 1) (or-shr a b l) ∙
     ap (λ (x : ℕ). eqb x 1) (or-low (a / 2 ^ l) (b / 2 ^ l)) ∙
     or-digit ((a / 2 ^ l) % 2) ((b / 2 ^ l) % 2) (omega arith) (omega arith) .0
+
+pub bit-and : (a b l : ℕ) → hasBit (bitAnd a b) l ≡ (hasBit a l && hasBit b l)
+unfolding hasBit
+bit-and a b l =
+    ap (λ (x : ℕ). eqb (x % 2) 1) (and-shr a b l) ∙
+    ap (λ (x : ℕ). eqb x 1) (and-low (a / 2 ^ l) (b / 2 ^ l)) ∙
+    and-digit ((a / 2 ^ l) % 2) ((b / 2 ^ l) % 2) (omega arith) (omega arith) .0
 
 -- one power of two has one digit
 power-low : (l d : ℕ) → 2 ^ (suc d + l) / 2 ^ l % 2 ≡ 0
@@ -70,6 +94,34 @@ bit-half x l = ap (λ (y : ℕ). eqb (y % 2) 1) (ap (λ (y : ℕ). x / y) (pow-s
 bit-first : (x : ℕ) → hasBit x 0 ≡ eqb (x % 2) 1
 unfolding hasBit
 bit-first x = rw (div-one x)
+
+-- a word of ones has every digit
+pub bit-full : (n l : ℕ) → l < n → hasBit (2 ^ n - 1) l ≡ true
+unfolding hasBit
+bit-full n l h =
+    let d : ℕ = n - suc l in
+    let e : n ≡ suc d + l = omega arith in
+    let f : 2 ^ suc d ≡ 2 ^ d * 2 = pow-suc 2 d in
+    let z : (2 ^ n - 1) / 2 ^ l ≡ 2 ^ suc d - 1 = ap (λ (x : ℕ). (2 ^ x - 1) / 2 ^ l) e ∙ ap (λ (x : ℕ). x / 2 ^ l) (ones-split (suc d) l) ∙ digits-div (2 ^ suc d - 1) (omega (arith, pow-pos l)) in
+    eq-eqb _ 1 (ap (λ (x : ℕ). x % 2) z ∙ (omega (arith, pow-pos d)))
+
+same-digit : (p q : ℕ) → p < 2 → q < 2 → eqb p 1 ≡ eqb q 1 → p ≡ q
+same-digit zero zero h k e = refl
+same-digit zero (suc zero) h k e = absurd (true≢false (sym e))
+same-digit zero (suc (suc q)) h k e = absurd (omega arith)
+same-digit (suc zero) zero h k e = absurd (true≢false e)
+same-digit (suc zero) (suc zero) h k e = refl
+same-digit (suc zero) (suc (suc q)) h k e = absurd (omega arith)
+same-digit (suc (suc p)) q h k e = absurd (omega arith)
+
+-- two words with the same digits are one
+pub bits-same : (n x y : ℕ) → x < 2 ^ n → y < 2 ^ n → ((l : ℕ) → l < n → hasBit x l ≡ hasBit y l) → x ≡ y
+bits-same zero x y h k f = omega arith
+bits-same (suc n) x y h k f =
+    let p : 2 ^ suc n ≡ 2 ^ n * 2 = pow-suc 2 n in
+    let high : x / 2 ≡ y / 2 = bits-same n (x / 2) (y / 2) (omega arith) (omega arith) (λ l g. sym (bit-half x l) ∙ f (suc l) (omega arith) ∙ bit-half y l) in
+    let low : x % 2 ≡ y % 2 = same-digit (x % 2) (y % 2) (omega arith) (omega arith) (sym (bit-first x) ∙ f 0 (omega arith) ∙ bit-first y) in
+    omega arith
 
 -- a list one place further on is as long
 shifted : (p q : ℕ → Bool) (i c : ℕ) → ((j : ℕ) → p (suc j) ≡ q j) → length (listed p (suc i) c) ≡ length (listed q i c)

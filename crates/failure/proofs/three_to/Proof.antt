@@ -1,0 +1,22 @@
+use Rattle.failure.proofs.Numbers.{power-at}
+use native.Mathlib.Omega.{arith}
+use borrow.Author.Needs.{needs}
+use Rattle.failure.proofs.three_to.Statement.{statement}
+use Rattle.failure.proofs.three_to.Tie as tie
+use Rattle.failure.proofs.three_to.Reads as reads
+use Rattle.failure.proofs.three_to.Lts as lts
+
+-- src/lib.rt:30:5
+mul-result : tie.Need-mul-result
+mul-result c = search needs
+
+-- src/lib.rt:30:5
+array-read-result : tie.Need-array-read-result
+array-read-result c = search needs
+
+-- src/lib.rt:26:1
+returns : tie.Need-returns
+returns c = power-at _ (omega arith)
+
+pub three-to-spec : {M : Type 1} → statement M
+three-to-spec = tie.close (tie.spec mul-result array-read-result returns)

@@ -1,0 +1,23 @@
+use mathlib.Core.Path.{sym, _∙_}
+use Rattle.lanes.proofs.Operators.{lazy-is, strict-is, and-lazy, and-strict}
+use borrow.Author.Needs.{needs}
+use Rattle.lanes.proofs.and.Statement.{statement}
+use Rattle.lanes.proofs.and.Tie as tie
+use Rattle.lanes.proofs.and.Reads as reads
+use Rattle.lanes.proofs.and.Lts as lts
+use Rattle.evaluate.proofs.is_lazy.Reads as is-lazy-reads
+
+-- src/lib.rt:38:8
+is-lazy-requires : tie.Need-is-lazy-requires
+is-lazy-requires c κs = search needs
+
+-- src/lib.rt:39:9
+returns : tie.Need-returns
+returns c = and-lazy _ (lazy-is _ (sym (c .before .before .before .before .before .is-lazy .ensures) ∙ c .before .before .before .before .if1 .taken)) (c .before .before .before .before .before .before .args .a) (c .before .before .before .before .before .before .args .b)
+
+-- src/lib.rt:35:1
+returns-2 : tie.Need-returns-2
+returns-2 c = and-strict _ (strict-is _ (sym (c .before .before .before .before .before .before .before .is-lazy .ensures) ∙ c .before .before .before .before .before .before .if1 .left)) (c .before .before .before .before .before .before .before .before .args .a) (c .before .before .before .before .before .before .before .before .args .b)
+
+pub and-spec : {M : Type 1} → statement M
+and-spec = tie.close (tie.spec is-lazy-requires returns returns-2)

@@ -1,0 +1,23 @@
+use mathlib.Core.Path.{sym, _∙_}
+use Rattle.lanes.proofs.Operators.{lazy-is, strict-is, or-lazy, or-strict}
+use borrow.Author.Needs.{needs}
+use Rattle.lanes.proofs.or.Statement.{statement}
+use Rattle.lanes.proofs.or.Tie as tie
+use Rattle.lanes.proofs.or.Reads as reads
+use Rattle.lanes.proofs.or.Lts as lts
+use Rattle.evaluate.proofs.is_lazy.Reads as is-lazy-reads
+
+-- src/lib.rt:53:8
+is-lazy-requires : tie.Need-is-lazy-requires
+is-lazy-requires c κs = search needs
+
+-- src/lib.rt:54:9
+returns : tie.Need-returns
+returns c = or-lazy _ (lazy-is _ (sym (c .before .before .before .before .before .is-lazy .ensures) ∙ c .before .before .before .before .if1 .taken)) (c .before .before .before .before .before .before .args .a) (c .before .before .before .before .before .before .args .b)
+
+-- src/lib.rt:50:1
+returns-2 : tie.Need-returns-2
+returns-2 c = or-strict _ (strict-is _ (sym (c .before .before .before .before .before .before .before .is-lazy .ensures) ∙ c .before .before .before .before .before .before .if1 .left)) (c .before .before .before .before .before .before .before .before .args .a) (c .before .before .before .before .before .before .before .before .args .b)
+
+pub or-spec : {M : Type 1} → statement M
+or-spec = tie.close (tie.spec is-lazy-requires returns returns-2)

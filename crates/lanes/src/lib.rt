@@ -1,0 +1,191 @@
+// The value of a condition row under 64 link values at once: an operator is a few operations on words.
+ghost use mathlib.Core.Path.{_≡_};
+ghost use mathlib.Core.Bool.{Bool};
+ghost use Prim.Native.Nat.{ℕ, _+_, _*_, _<_, _≤_};
+ghost use lib.ListN.{length, getD};
+ghost use Rattle.calculus.specs.Status.{truth};
+ghost use Rattle.conditions.specs.Operators.{AND, OR, EQ, NE};
+ghost use Rattle.sheet.specs.Table.{operatorOf, conditionRowBy, conditionRowAt};
+ghost use Rattle.lanes.specs.Lanes.{Shows, lanesAt, linkLanes, Operated, Stepped, Valued};
+
+// The lanes that are true, and those that are false.
+pub struct Lanes {
+    pub trues: u64,
+    pub falses: u64,
+}
+
+const ALL: u64 = 18446744073709551615;
+
+fn constant(b: bool) -> Lanes
+    ensures { λ r. ⌜ Shows r (λ j. truth b) ⌝ }
+{
+    if b {
+        return Lanes {
+            trues: ALL,
+            falses: 0,
+        };
+    }
+    Lanes {
+        trues: 0,
+        falses: ALL,
+    }
+}
+
+// Strictly, a lane is false only where the other operand is set.
+fn and(evaluation: u8, a: Lanes, b: Lanes) -> Lanes
+    ensures { λ r. ⌜ Operated evaluation AND a b r ⌝ }
+{
+    if evaluate::is_lazy(evaluation) {
+        return Lanes {
+            trues: a.trues & b.trues,
+            falses: a.falses | b.falses,
+        };
+    }
+    Lanes {
+        trues: a.trues & b.trues,
+        falses: (a.falses & (b.trues | b.falses)) | (a.trues & b.falses),
+    }
+}
+
+fn or(evaluation: u8, a: Lanes, b: Lanes) -> Lanes
+    ensures { λ r. ⌜ Operated evaluation OR a b r ⌝ }
+{
+    if evaluate::is_lazy(evaluation) {
+        return Lanes {
+            trues: a.trues | b.trues,
+            falses: a.falses & b.falses,
+        };
+    }
+    Lanes {
+        trues: (a.trues & (b.trues | b.falses)) | (a.falses & b.trues),
+        falses: a.falses & b.falses,
+    }
+}
+
+fn equal(evaluation: u8, a: Lanes, b: Lanes) -> Lanes
+    ensures { λ r. ⌜ Operated evaluation EQ a b r ⌝ }
+{
+    Lanes {
+        trues: (a.trues & b.trues) | (a.falses & b.falses),
+        falses: (a.trues & b.falses) | (a.falses & b.trues),
+    }
+}
+
+fn differ(evaluation: u8, a: Lanes, b: Lanes) -> Lanes
+    ensures { λ r. ⌜ Operated evaluation NE a b r ⌝ }
+{
+    Lanes {
+        trues: (a.trues & b.falses) | (a.falses & b.trues),
+        falses: (a.trues & b.trues) | (a.falses & b.falses),
+    }
+}
+
+fn operate(evaluation: u8, o: u8, a: Lanes, b: Lanes) -> Lanes
+    requires { ⌜ o < 4 ⌝ }
+    ensures { λ r. ⌜ Operated evaluation (operatorOf o) a b r ⌝ }
+{
+    match o {
+        0 => and(evaluation, a, b),
+        1 => or(evaluation, a, b),
+        2 => equal(evaluation, a, b),
+        _ => differ(evaluation, a, b),
+    }
+}
+
+fn of_link(lt: &[u64; 64], lf: &[u64; 64], l: u8) -> Lanes
+    ensures { λ r. ⌜ r ≡ linkLanes (now (lt .entry)) (now (lf .entry)) l ⌝ }
+{
+    if 64 <= l {
+        return Lanes {
+            trues: 0,
+            falses: 0,
+        };
+    }
+    Lanes {
+        trues: lt[l as usize],
+        falses: lf[l as usize],
+    }
+}
+
+fn of_row(trues: &[u64; 256], falses: &[u64; 256], row: u8) -> Lanes
+    ensures { λ r. ⌜ r ≡ lanesAt (now (trues .entry)) (now (falses .entry)) row ⌝ }
+{
+    Lanes {
+        trues: trues[row as usize],
+        falses: falses[row as usize],
+    }
+}
+
+// A row from its bytes.
+fn row_by(
+    evaluation: u8,
+    kind: u8,
+    a: u8,
+    b: u8,
+    lt: &[u64; 64],
+    lf: &[u64; 64],
+    trues: &[u64; 256],
+    falses: &[u64; 256],
+) -> Lanes
+    ensures { λ r. ⌜ Stepped evaluation (conditionRowBy kind a b) (now (lt .entry)) (now (lf .entry)) (now (trues .entry)) (now (falses .entry)) r ⌝ }
+{
+    match kind {
+        0 => constant(false),
+        1 => constant(true),
+        2 => of_link(lt, lf, a),
+        _ => {
+            if kind < 7 {
+                operate(
+                    evaluation,
+                    kind - 3,
+                    of_row(trues, falses, a),
+                    of_row(trues, falses, b),
+                )
+            } else {
+                constant(false)
+            }
+        }
+    }
+}
+
+fn step(
+    evaluation: u8,
+    cs: &[u8],
+    row: usize,
+    lt: &[u64; 64],
+    lf: &[u64; 64],
+    trues: &[u64; 256],
+    falses: &[u64; 256],
+) -> Lanes
+    requires { ⌜ row * 4 + 4 ≤ length (now cs) ⌝ }
+    ensures { λ r. ⌜ Stepped evaluation (conditionRowAt (now (cs .entry)) row) (now (lt .entry)) (now (lf .entry)) (now (trues .entry)) (now (falses .entry)) r ⌝ }
+{
+    let at = row * 4;
+    row_by(
+        evaluation,
+        cs[at],
+        cs[at + 1],
+        cs[at + 2],
+        lt,
+        lf,
+        trues,
+        falses,
+    )
+}
+
+// The value of a row in each lane.
+pub fn value(evaluation: u8, cs: &[u8], row: usize, lt: &[u64; 64], lf: &[u64; 64]) -> Lanes
+    requires { ⌜ (row * 4 + 4 ≤ length (now cs)) × (row < 256) ⌝ }
+    ensures { λ r. ⌜ Valued evaluation (now (cs .entry)) row (now (lt .entry)) (now (lf .entry)) r ⌝ }
+{
+    let mut trues = [0; 256];
+    let mut falses = [ALL; 256];
+    let mut i = 0;
+    while i < row {
+        let x = step(evaluation, cs, i, lt, lf, &trues, &falses);
+        trues[i] = x.trues;
+        falses[i] = x.falses;
+        i += 1;
+    }
+    step(evaluation, cs, row, lt, lf, &trues, &falses)
+}

@@ -1,0 +1,130 @@
+-- JOIN rows in bytes, what is known of the condition of one, and condition rows that are tried once. Assumes nothing.
+use Prim.Native.Nat.{ℕ, _+_, _*_, _<_, _≤_}
+use mathlib.Core.Path.{_≡_, refl, sym, _∙_, ap, ap₂}
+use mathlib.Core.Bool.{Bool, true, false, cond, not, _&&_, true≢false}
+use mathlib.Core.List.{List}
+use mathlib.Core.Logic.{by-cases}
+use native.Mathlib.Omega.{arith}
+use native.Mathlib.Decide.{ℕ-discrete}
+use lib.Dec.{eqb, ltb}
+use lib.ListN.{length, getD, set, replicate}
+use lib.Seq.{getD-set-other}
+use borrow.Author.Tests.{lt-ltb, le-ltb, ne-eqb, not-true, not-false}
+use Rattle.laws.specs.Up.{Filled}
+use Rattle.laws.proofs.Tests.{and-l, and-false}
+use Rattle.laws.proofs.Up.{filled-at, getD-constant}
+use Rattle.calculus.specs.Process.{act, out, join, pick, flow}
+use Rattle.steps.specs.Rows.{Row, NIL, PREFIX, BRANCH}
+use Rattle.sheet.specs.Table.{Table, rowBy, rowAt, evalOf}
+use Rattle.reach.specs.Masks.{maskAt}
+use Rattle.conditions.specs.Numbers.{assign}
+use Rattle.conditions.specs.Failure.{offender}
+use Rattle.failure.specs.Failure.{linksAt, failsAt, numberAt, linkAt, Narrow}
+use Rattle.failure.proofs.Search.{link-is}
+use Rattle.verdict.specs.declared.Verdict.the-variants.{Pass, Fail}
+use Rattle.verdict.specs.Verdict.{isJoinPrefix, isJoin, conditionOfPrefix, conditionOf, failsIn, sound, failing, failAt, verdictOf, Judged}
+use Rattle.verdict.specs.Tried.{Tried, marked}
+
+-- a row of kind 3 is a JOIN on the row that its second byte names
+module _ (ts : List ℕ) (j : ℕ) where
+  abbrev pub kindAt : ℕ
+  kindAt = getD ts (j * 4) 0
+
+  abbrev pub secondAt : ℕ
+  secondAt = getD ts (j * 4 + 1) 0
+
+  pub join-row : kindAt ≡ 3 → rowAt ts j ≡ PREFIX (join secondAt) (getD ts (j * 4 + 2) 0)
+  unfolding rowAt rowBy
+  join-row e = rw e refl
+
+  pub join-is : kindAt ≡ 3 → isJoin (rowAt ts j) ≡ true
+  unfolding isJoin isJoinPrefix
+  join-is e = rw (join-row e) refl
+
+  pub join-condition : kindAt ≡ 3 → conditionOf (rowAt ts j) ≡ secondAt
+  unfolding conditionOf conditionOfPrefix
+  join-condition e = rw (join-row e) refl
+
+other-kinds : (a b c : ℕ) (t₀ t₁ t₂ t₄ t₅ : Bool) → isJoin (cond t₀ NIL (cond t₁ (PREFIX (act a) b) (cond t₂ (PREFIX (out a (eqb b 1)) c) (cond false (PREFIX (join a) b) (cond t₄ (BRANCH pick a b) (cond t₅ (BRANCH flow a b) NIL)))))) ≡ false
+unfolding isJoin isJoinPrefix
+other-kinds a b c true t₁ t₂ t₄ t₅ = refl
+other-kinds a b c false true t₂ t₄ t₅ = refl
+other-kinds a b c false false true t₄ t₅ = refl
+other-kinds a b c false false false true t₅ = refl
+other-kinds a b c false false false false true = refl
+other-kinds a b c false false false false false = refl
+
+pub no-join : (ts : List ℕ) (j : ℕ) → (kindAt ts j ≡ 3 → ⊥) → isJoin (rowAt ts j) ≡ false
+unfolding rowAt rowBy
+no-join ts j h = let k : ℕ = kindAt ts j in rw (ne-eqb (kindAt ts j) 3 h) (other-kinds (secondAt ts j) (getD ts (j * 4 + 2) 0) (getD ts (j * 4 + 3) 0) (eqb k 0) (eqb k 1) (eqb k 2) (eqb k 4) (eqb k 5))
+
+-- and no other row is
+pub is-join : (ts : List ℕ) (j : ℕ) → isJoin (rowAt ts j) ≡ true → kindAt ts j ≡ 3
+is-join ts j e = by-cases (ℕ-discrete (kindAt ts j) 3) (λ h. h) (λ h. absurd (true≢false (sym e ∙ no-join ts j h)))
+
+-- a JOIN row of a judged table, and the table of masks
+module _ (t : Table) (g : Judged t) (masks : List ℕ) (f : Filled 0 (maskAt (t .conditions)) (t .k) masks) (j : ℕ) (h : j < t .n) (is : kindAt (t .terms) j ≡ 3) (row mask : ℕ) (at-row : row ≡ secondAt (t .terms) j) (at-mask : mask ≡ getD masks (secondAt (t .terms) j) 0) where
+  pub narrow : Narrow (t .m) (t .conditions) row mask
+  narrow =
+      let r = join-row (t .terms) j is in
+      let c : secondAt (t .terms) j < t .k = g .join-below-k j _ _ h r in
+      let lent : t .k * 4 ≤ length (t .conditions) = g .lent-conditions in
+      let few : t .k ≤ 256 = g .few-conditions in
+      record {
+        lent = omega arith;
+        few-rows = omega arith;
+        few-links = g .few-links;
+        below-m = (λ l e. g .link-below-m row l (omega arith) e);
+        narrow = rw at-row (g .eight-links j _ _ h r);
+        its-mask = at-mask ∙ filled-at 0 (maskAt (t .conditions)) (t .k) masks (secondAt (t .terms) j) f c ∙ ap (maskAt (t .conditions)) (sym at-row);
+      }
+
+module _ (t : Table) (j : ℕ) where
+  pub sound-other : (kindAt (t .terms) j ≡ 3 → ⊥) → true ≡ sound t j
+  unfolding sound
+  sound-other h = rw (no-join (t .terms) j h) refl
+
+  pub sound-join : kindAt (t .terms) j ≡ 3 → (row : ℕ) → row ≡ secondAt (t .terms) j → not (failsIn t row) ≡ sound t j
+  unfolding sound
+  sound-join h row at-row = rw (join-is (t .terms) j h, join-condition (t .terms) j h, at-row) refl
+
+  pub sound-tried : (seen : List ℕ) → Tried t seen → kindAt (t .terms) j ≡ 3 → getD seen (secondAt (t .terms) j) 0 ≡ 1 → true ≡ sound t j
+  unfolding Tried
+  sound-tried seen s h e = ap not (sym (s (secondAt (t .terms) j) e)) ∙ sound-join h (secondAt (t .terms) j) refl
+
+  pub unsound-join : sound t j ≡ false → isJoin (rowAt (t .terms) j) ≡ true
+  unfolding sound
+  unsound-join e = and-l _ (failsIn t (conditionOf (rowAt (t .terms) j))) (not-false _ e)
+
+  pub fail-is : (x l row : ℕ) → kindAt (t .terms) j ≡ 3 → row ≡ secondAt (t .terms) j → x ≡ numberAt (t .evaluation) (t .m) (t .conditions) row → l ≡ offender (evalOf (t .evaluation) (t .conditions) row) (t .m) (assign (linksAt (t .m) (t .conditions) row) x) → Fail j x l ≡ failAt t j
+  unfolding failAt
+  fail-is x l row h at-row p q = rw (join-condition (t .terms) j h, ← at-row) (ap₂ (Fail j) p (link-is _ _ _ _ x l p q))
+
+  pub verdict-fail : j < t .n → j ≡ failing t → failAt t j ≡ verdictOf t
+  unfolding verdictOf
+  verdict-fail h p = rw (← p, lt-ltb j (t .n) h) refl
+
+  pub verdict-pass : t .n ≤ j → j ≡ failing t → Pass ≡ verdictOf t
+  unfolding verdictOf
+  verdict-pass h p = rw (← p, le-ltb j (t .n) h) refl
+
+-- a condition row is tried once
+pub tried-none : (t : Table) → Tried t (replicate 256 0)
+unfolding Tried
+tried-none t c h = absurd (let z : ⊥ = omega (arith, getD-constant {A = ℕ} 0 (λ i. 0) 256 c) in z)
+
+pub tried-mark : (t : Table) (seen : List ℕ) (j : ℕ) → Tried t seen → sound t j ≡ true → Tried t (marked (rowAt (t .terms) j) seen)
+unfolding Tried sound marked
+tried-mark t seen j s e c h = at (isJoin (rowAt (t .terms) j)) (not-true (isJoin (rowAt (t .terms) j) && failsIn t (conditionOf (rowAt (t .terms) j))) e) h
+  where
+    at : (b : Bool) → (b && failsIn t (conditionOf (rowAt (t .terms) j))) ≡ false → getD (cond b (set seen (conditionOf (rowAt (t .terms) j)) 1) seen) c 0 ≡ 1 → failsIn t c ≡ false
+    at false f h = s c h
+    at true f h = by-cases (ℕ-discrete c (conditionOf (rowAt (t .terms) j))) (λ (q : c ≡ conditionOf (rowAt (t .terms) j)). rw q f) (λ (q : c ≡ conditionOf (rowAt (t .terms) j) → ⊥). s c (sym (getD-set-other seen (conditionOf (rowAt (t .terms) j)) c 1 0 q) ∙ h))
+
+pub mark-join : (ts : List ℕ) (j : ℕ) (seen : List ℕ) → kindAt ts j ≡ 3 → set seen (secondAt ts j) 1 ≡ marked (rowAt ts j) seen
+unfolding marked
+mark-join ts j seen e = rw (join-is ts j e, join-condition ts j e) refl
+
+pub mark-other : (ts : List ℕ) (j : ℕ) (seen : List ℕ) → (kindAt ts j ≡ 3 → ⊥) → seen ≡ marked (rowAt ts j) seen
+unfolding marked
+mark-other ts j seen h = rw (no-join ts j h) refl

@@ -1,0 +1,105 @@
+// The verdict of a table. Each condition row is tried once; number and link are searched for one JOIN only.
+ghost use mathlib.Core.Path.{_≡_};
+ghost use mathlib.Core.Bool.{not, true};
+ghost use Prim.Native.Nat.{ℕ, _+_, _*_, _<_, _≤_};
+ghost use lib.ListN.{length, getD};
+ghost use Rattle.laws.specs.Up.{Filled};
+ghost use Rattle.sheet.specs.Table.{tableOf, rowAt};
+ghost use Rattle.reach.specs.Masks.{maskAt};
+ghost use Rattle.verdict.specs.Verdict.{isJoin, sound, failAt, verdictOf, Judged};
+ghost use Rattle.verdict.specs.Tried.{Tried, marked};
+use sheet::Head;
+
+pub enum Verdict {
+    Pass,
+    Fail {
+        row: usize,
+        number: usize,
+        link: usize,
+    },
+}
+
+fn wide(x: u8) -> usize
+    ensures { λ r. ⌜ r ≡ x ⌝ }
+{
+    x as usize
+}
+
+fn mask_of(masks: &[u64; 256], row: u8) -> u64
+    ensures { λ r. ⌜ r ≡ getD (now (masks .entry)) row 0 ⌝ }
+{
+    masks[row as usize]
+}
+
+fn tried(seen: &[u8; 256], row: u8) -> u8
+    ensures { λ r. ⌜ r ≡ getD (now (seen .entry)) row 0 ⌝ }
+{
+    seen[row as usize]
+}
+
+// A JOIN's condition row has been tried, and passes.
+fn mark(seen: &mut [u8; 256], ts: &[u8], j: usize)
+    requires { ⌜ j * 4 + 4 ≤ length (now ts) ⌝ }
+    ensures { λ _. ⌜ now (seen .exit) ≡ marked (rowAt (now (ts .entry)) j) (now (seen .entry)) ⌝ }
+{
+    let kind = ts[j * 4];
+    let c = ts[j * 4 + 1];
+    if kind == 3 {
+        seen[c as usize] = 1;
+    }
+}
+
+// Row j is no JOIN whose condition fails.
+fn is_sound(h: Head, ts: &[u8], cs: &[u8], masks: &[u64; 256], seen: &[u8; 256], j: usize) -> bool
+    requires { ⌜ (Judged (tableOf h (now ts) (now cs))) × (Filled 0 (maskAt (now cs)) (h .k) (now masks) × ((j < h .n) × Tried (tableOf h (now ts) (now cs)) (now seen))) ⌝ }
+    ensures { λ r. ⌜ r ≡ sound (tableOf h (now (ts .entry)) (now (cs .entry))) j ⌝ }
+{
+    let kind = ts[j * 4];
+    if kind != 3 {
+        return true;
+    }
+    let c = ts[j * 4 + 1];
+    let old = tried(seen, c);
+    if old == 1 {
+        return true;
+    }
+    let mask = mask_of(masks, c);
+    let passed = failure::passes(h.evaluation, h.m, cs, wide(c), mask);
+    passed
+}
+
+// The failure of JOIN row j.
+fn fail(h: Head, ts: &[u8], cs: &[u8], masks: &[u64; 256], j: usize) -> Verdict
+    requires { ⌜ (Judged (tableOf h (now ts) (now cs))) × (Filled 0 (maskAt (now cs)) (h .k) (now masks) × ((j < h .n) × (isJoin (rowAt (now ts) j) ≡ true))) ⌝ }
+    ensures { λ r. ⌜ r ≡ failAt (tableOf h (now (ts .entry)) (now (cs .entry))) j ⌝ }
+{
+    let c = ts[j * 4 + 1];
+    let mask = mask_of(masks, c);
+    let row = wide(c);
+    let x = failure::number(h.evaluation, h.m, cs, row, mask);
+    let l = failure::link(h.evaluation, h.m, cs, row, mask, x);
+    Verdict::Fail {
+        row: j,
+        number: x,
+        link: l,
+    }
+}
+
+// The verdict of a table that is judged.
+pub fn give(h: Head, ts: &[u8], cs: &[u8]) -> Verdict
+    requires { ⌜ Judged (tableOf h (now ts) (now cs)) ⌝ }
+    ensures { λ r. ⌜ r ≡ verdictOf (tableOf h (now (ts .entry)) (now (cs .entry))) ⌝ }
+{
+    let masks = reach::masks(cs, h.k);
+    let n = h.n;
+    let mut seen = [0; 256];
+    let mut j = 0;
+    while j < n {
+        if !is_sound(h, ts, cs, &masks, &seen, j) {
+            return fail(h, ts, cs, &masks, j);
+        }
+        mark(&mut seen, ts, j);
+        j += 1;
+    }
+    Verdict::Pass
+}
