@@ -43,7 +43,7 @@ links-clear t l = fun-ext (λ k. by-cases (ℕ-discrete k l)
 
 links-zeros : (k : ℕ) → linksIn (replicate 64 0) k ≡ Unset
 unfolding linksIn undigit
-links-zeros k = rw (getD-constant 0 64 k) (cond-all (λ (u : Value). u ≡ Unset) (ltb k 64) refl refl)
+links-zeros k = rw (getD-constant {A = ℕ} 0 64 k) (cond-all (λ (u : Value). u ≡ Unset) (ltb k 64) refl refl)
 
 module _ (f : ℕ → Value) (b : ℕ) (p : ℕ → Bool) where
   -- a link below the first that is listed is unset

@@ -68,7 +68,7 @@ module _ (e : ℕ) (cs lt lf : List ℕ) where
     long-t = refl;
     long-f = refl;
     shows = (λ v s i h.
-        rw (getD-constant 0 256 i, full 18446744073709551615 256 i h)
+        rw (getD-constant {A = ℕ} 0 256 i, full 18446744073709551615 256 i h)
         (shows-same _ (λ j. False) _ (λ j. sym (below-out False (λ q. evalOf e cs q (v j)) 0 i (omega arith))) false-lanes));
   }
 

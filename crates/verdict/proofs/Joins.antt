@@ -111,7 +111,7 @@ module _ (t : Table) (j : ℕ) where
 -- a condition row is tried once
 pub tried-none : (t : Table) → Tried t (replicate 256 0)
 unfolding Tried
-tried-none t c h = absurd (let z : ⊥ = omega (arith, getD-constant 0 256 c) in z)
+tried-none t c h = absurd (let z : ⊥ = omega (arith, getD-constant {A = ℕ} 0 256 c) in z)
 
 pub tried-mark : (t : Table) (seen : List ℕ) (j : ℕ) → Tried t seen → sound t j ≡ true → Tried t (marked (rowAt (t .terms) j) seen)
 unfolding Tried sound marked
