@@ -4,6 +4,7 @@ pub mod Marks
 pub mod Parents
 pub mod Remainder
 pub mod InFront
+pub mod Push
 pub mod Length
 pub mod Demand
 pub mod SheetX
