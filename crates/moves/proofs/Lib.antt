@@ -1,0 +1,5 @@
+pub mod Falsify
+pub mod Climb
+pub mod StateAfter
+pub mod Moves
+pub mod Allowed

@@ -49,6 +49,15 @@ module _ (node : ℕ → Row) (μ : Marks) where
       (λ l. (l, sym (below-in false (reached node μ) j (parentOf node j) l) ∙ and-l _ _ w, and-r (below false (reached node μ) j (parentOf node j)) _ w))
       (λ l. absurd (not-both (and-l _ _ w) (below-out false (reached node μ) j (parentOf node j) (omega arith))))
 
+  -- what goes from each row that one reaches to its parent comes to row 0
+  pub reached-induction : (C : ℕ → Type 0) → ((j : ℕ) → parentOf node j < j → reached node μ (parentOf node j) ≡ true → leads (node (parentOf node j)) (μ (parentOf node j)) (rightOf node j) ≡ true → C j → C (parentOf node j)) → (j : ℕ) → reached node μ j ≡ true → C j → C 0
+  reached-induction C s j e c = go (suc j) j (omega arith) e c
+    where
+      go : (f j : ℕ) → j < f → reached node μ j ≡ true → C j → C 0
+      go zero j a e c = absurd (let z : ⊥ = omega arith in z)
+      go (suc f) zero a e c = c
+      go (suc f) (suc j) a e c = let (l, b, g) = reached-parent (suc j) (omega arith) e in go f (parentOf node (suc j)) (omega arith) b (s (suc j) l b g c)
+
   module _ (n : ℕ) (kids : (i : ℕ) → i < n → Kids i n (node i)) (once : Once node n) where
     abbrev R : ℕ → Process
     R = remainderOf node n μ
@@ -89,20 +98,21 @@ module _ (node : ℕ → Row) (μ : Marks) where
     led-place i j (BRANCH κ a b) m false r π l c p = open-place i a b κ (open-branches κ m) false r π l (λ e. rw c p) (λ e. absurd (true≢false (sym e)))
     led-place i j (BRANCH κ a b) m true r π l c p = open-place i a b κ (open-branches κ m) true r π l (λ e. absurd (true≢false e)) (λ e. rw c p)
 
-    reached-place : (r : ℕ) (π : Prefix) (f j : ℕ) → j < f → j < n → reached node μ j ≡ true → PlaceOf (R j) r π → PlaceOf (R 0) r π
-    reached-place r π zero j a h e p = absurd (let z : ⊥ = omega arith in z)
-    reached-place r π (suc f) zero a h e p = p
-    reached-place r π (suc f) (suc j) a h e p =
-        let (l, b, g) = reached-parent (suc j) (omega arith) e in
-        let i : ℕ = parentOf node (suc j) in
-        reached-place r π f i (omega arith) (omega arith) b (subst (λ (P : Process). PlaceOf P r π) (sym (remainder-at node n μ kids i (omega arith))) (led-place i (suc j) (node i) (μ i) (rightOf node (suc j)) r π g (parent-child node (suc j) l) p))
+    reached-place : (r : ℕ) (π : Prefix) (j : ℕ) → j < n → reached node μ j ≡ true → PlaceOf (R j) r π → PlaceOf (R 0) r π
+    reached-place r π j h e p =
+        reached-induction (λ j. (j < n) × PlaceOf (R j) r π)
+        (λ j l b g c.
+        let i : ℕ = parentOf node j in
+        let a : i < n = omega (arith, l, c .0) in
+        (a, subst (λ (P : Process). PlaceOf P r π) (sym (remainder-at node n μ kids i a)) (led-place i j (node i) (μ i) (rightOf node j) r π g (parent-child node j l) (c .1))))
+        j e (h, p) .1
 
     pub front-place : (r c : ℕ) (π : Prefix) → node r ≡ PREFIX π c → inFront node μ n r ≡ true → PlaceOf (R 0) r π
     unfolding inFront waiting remainderBy
     front-place r c π e f =
         let h : r < n = ltb-true r n (and-l (ltb r n) (reached node μ r) (and-l _ (waiting (node r) (μ r)) f)) in
         let w : waiting (PREFIX π c) (μ r) ≡ true = rw e at (and-r (ltb r n && reached node μ r) _ f) in
-        reached-place r π (suc r) r (omega arith) h (and-r (ltb r n) _ (and-l _ (waiting (node r) (μ r)) f))
+        reached-place r π r h (and-r (ltb r n) _ (and-l _ (waiting (node r) (μ r)) f))
         (subst (λ (P : Process). PlaceOf P r π) (sym (remainder-at node n μ kids r h ∙ ap (λ (N : Row). remainderBy r N (μ r) R) e)) (own-place r c π (stand (μ r)) (waits-is (stand (μ r)) w)))
 
     -- EVERY PLACE IS A ROW IN FRONT, and its row says what stands there
