@@ -107,6 +107,13 @@ module _ (t : Table) (w : WellFormed t) (s : State) (size : Sized s) where
   links-at : (u : Turn) (x : Place P) (z : State) → Is s u z P x → linksOf z ≡ put-on (effect u (falsifies m) P x) (linksOf s)
   links-at u x z i = fun-ext (i .links-are)
 
+  -- a step keeps the mode and the size
+  pub step-kept : (r : ℕ) → hasStep t s r ≡ true → Sized (steppedOf t s r) × (steppedOf t s r .mode ≡ s .mode)
+  step-kept r e =
+      let (u, q) = has-turn t s r e in
+      let (x, p, h, i) = stepped-at t s r w size u q (turn-fronts t s r u q) in
+      (i .sized, i .same-mode)
+
   -- A STEP IS A MOVE ...
   pub step-move : (r : ℕ) → hasStep t s r ≡ true → (α : Label) × (row-of α ≡ r) × (kindIn α ≡ kindAt t s r) × IsMove eval m P (linksOf s) α (leftIn t (steppedOf t s r)) (linksOf (steppedOf t s r))
   step-move r e =
