@@ -6,12 +6,13 @@ use mathlib.Core.Logic.{_⊎_, inl, inr, ⊎-elim, by-cases}
 use Prim.Native.Nat.{ℕ, zero, suc, _+_, _<_, _≤_}
 use native.Mathlib.Omega.{arith}
 use native.Mathlib.Decide.{ℕ-discrete, decLt}
-use lib.Dec.{eqb}
+use lib.Dec.{eqb, ltb}
 use lib.ListN.{getD, set, length, length-set}
-use lib.Seq.{getD-set-same, getD-set-other}
+use lib.Seq.{getD-set-same, getD-set-other, set-out}
 use borrow.Author.Tests.{eq-eqb, ne-eqb, lt-ltb, le-ltb}
 use Rattle.laws.proofs.Tests.{cond-all}
 use Rattle.calculus.specs.Status.{Value, Unset, False, Links, truth}
+use Rattle.calculus.proofs.Order.{true≢unset, false≢unset}
 use Rattle.calculus.specs.Places.{over, false-if, value-if}
 use Rattle.conditions.specs.Numbers.{digit, undigit}
 use Rattle.steps.specs.Marks.{mark}
@@ -26,6 +27,15 @@ set-mark xs r a k h =
     by-cases (ℕ-discrete k r)
     (λ e. rw (eq-eqb k r e, e) (getD-set-same xs r a 0 h))
     (λ e. rw (ne-eqb k r e) (getD-set-other xs r k a 0 e))
+
+-- ... whatever the place
+pub set-cases : (xs : List ℕ) (r a k : ℕ) → ((k ≡ r) × (getD (set xs r a) k 0 ≡ a)) ⊎ (getD (set xs r a) k 0 ≡ getD xs k 0)
+set-cases xs r a k =
+    by-cases (ℕ-discrete k r)
+    (λ e. by-cases (decLt r (length xs))
+    (λ h. inl (e, ap (λ (k : ℕ). getD (set xs r a) k 0) e ∙ getD-set-same xs r a 0 h))
+    (λ h. inr (ap (λ (ys : List ℕ). getD ys k 0) (set-out xs r a (omega arith)))))
+    (λ e. inr (getD-set-other xs r k a 0 e))
 
 -- a state of the right size stays so
 pub sized-mark : (s : State) (r a : ℕ) → Sized s → Sized (record { mode = s .mode; marks = set (s .marks) r a; links = s .links })
@@ -42,6 +52,19 @@ links-out xs l h = rw (le-ltb l 64 h) refl
 links-in : (xs : List ℕ) (l : ℕ) → l < 64 → linksIn xs l ≡ undigit (getD xs l 0)
 unfolding linksIn
 links-in xs l h = rw (lt-ltb l 64 h) refl
+
+undigit-zero : (x : ℕ) → undigit x ≡ Unset → x ≡ 0
+unfolding undigit
+undigit-zero zero e = refl
+undigit-zero (suc zero) e = absurd (false≢unset refl e)
+undigit-zero (suc (suc x)) e = absurd (true≢unset refl e)
+
+pub unset-zero : (xs : List ℕ) (l : ℕ) → l < 64 → linksIn xs l ≡ Unset → getD xs l 0 ≡ 0
+unset-zero xs l h e = undigit-zero (getD xs l 0) (sym (links-in xs l h) ∙ e)
+
+pub zero-unset : (xs : List ℕ) (l : ℕ) → getD xs l 0 ≡ 0 → linksIn xs l ≡ Unset
+unfolding linksIn undigit
+zero-unset xs l e = rw e (cond-all (λ (u : Value). u ≡ Unset) (ltb l 64) refl refl)
 
 undigit-digit : (u : Value) → undigit (digit u) ≡ u
 unfolding digit undigit

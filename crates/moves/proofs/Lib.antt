@@ -5,3 +5,7 @@ pub mod Moves
 pub mod Allowed
 pub mod Runs
 pub mod Demand
+pub mod Frame
+pub mod Held
+pub mod Clear
+pub mod Small

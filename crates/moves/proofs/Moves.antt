@@ -48,7 +48,7 @@ module _ (t : Table) (s : State) (r : ℕ) where
   turn-has u e = rw e refl
 
   -- a row with a step is in front, and has what its turn takes or drops
-  abbrev Fronts : Turn → Type 0
+  abbrev pub Fronts : Turn → Type 0
   Fronts u = (inFront (nodes t) (marksOf s) (t .n) r ≡ true) × (π : Prefix) × (c : ℕ) × (nodes t r ≡ PREFIX π c) × (turn π ≡ some u)
 
   pub turn-fronts : (u : Turn) → turnAt t s r ≡ some u → Fronts u
@@ -74,14 +74,14 @@ module _ (t : Table) (s : State) (r : ℕ) where
   turn-kind takes π c e p = rw (e, p) refl
   turn-kind drops π c e p = rw e refl
 
-  module _ (w : WellFormed t) (size : Sized s) where
-    front-parts : (π : Prefix) (c : ℕ) → nodes t r ≡ PREFIX π c → inFront (nodes t) (marksOf s) (t .n) r ≡ true → (r < t .n) × (reached (nodes t) (marksOf s) r ≡ true) × (stand (marksOf s r) ≡ waits)
-    unfolding inFront waiting
-    front-parts π c p f =
-        let a = and-l (ltb r (t .n) && reached (nodes t) (marksOf s) r) _ f in
-        let b : waitsBy (stand (marksOf s r)) ≡ true = rw p at (and-r (ltb r (t .n) && reached (nodes t) (marksOf s) r) _ f) in
-        (ltb-true r (t .n) (and-l _ (reached (nodes t) (marksOf s) r) a), and-r (ltb r (t .n)) _ a, waits-is (stand (marksOf s r)) b)
+  pub front-parts : (π : Prefix) (c : ℕ) → nodes t r ≡ PREFIX π c → inFront (nodes t) (marksOf s) (t .n) r ≡ true → (r < t .n) × (reached (nodes t) (marksOf s) r ≡ true) × (stand (marksOf s r) ≡ waits)
+  unfolding inFront waiting
+  front-parts π c p f =
+      let a = and-l (ltb r (t .n) && reached (nodes t) (marksOf s) r) _ f in
+      let b : waitsBy (stand (marksOf s r)) ≡ true = rw p at (and-r (ltb r (t .n) && reached (nodes t) (marksOf s) r) _ f) in
+      (ltb-true r (t .n) (and-l _ (reached (nodes t) (marksOf s) r) a), and-r (ltb r (t .n)) _ a, waits-is (stand (marksOf s r)) b)
 
+  module _ (w : WellFormed t) (size : Sized s) where
     -- the step of a turn leaves what the calculus says
     pub stepped-at : (u : Turn) → turnAt t s r ≡ some u → (f : Fronts u) → At t w s r (f .1) u (steppedOf t s r) (leftIn t s)
     unfolding steppedOf steppedBy
