@@ -9,3 +9,6 @@ pub mod Frame
 pub mod Held
 pub mod Clear
 pub mod Small
+pub mod Fits
+pub mod Kept
+pub mod SheetX

@@ -101,10 +101,10 @@ module _ (t : Table) (w : WellFormed t) (s : State) (size : Sized s) where
   distinct : Distinct (term (nodes t) (t .n) 0)
   distinct = term-distinct (nodes t) (t .n) (w .tree .kids) (w .tree .once) 0 (w .tree .some-row)
 
-  left-at : (u : Turn) (x : Place P) (z : State) → Is s u z P x → leftIn t z ≡ after u P x
+  pub left-at : (u : Turn) (x : Place P) (z : State) → Is s u z P x → leftIn t z ≡ after u P x
   left-at u x z i = ap (λ (μ : Marks). remainder μ (term (nodes t) (t .n) 0)) (fun-ext (i .marks-are)) ∙ remainder-marked u (marksOf s) (term (nodes t) (t .n) 0) distinct x
 
-  links-at : (u : Turn) (x : Place P) (z : State) → Is s u z P x → linksOf z ≡ put-on (effect u (falsifies m) P x) (linksOf s)
+  pub links-at : (u : Turn) (x : Place P) (z : State) → Is s u z P x → linksOf z ≡ put-on (effect u (falsifies m) P x) (linksOf s)
   links-at u x z i = fun-ext (i .links-are)
 
   -- a step keeps the mode and the size

@@ -6,4 +6,3 @@ pub mod Remainder
 pub mod InFront
 pub mod Length
 pub mod Demand
-pub mod SheetX
