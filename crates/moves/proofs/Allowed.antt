@@ -5,7 +5,7 @@ use Prim.Native.Nat.{ℕ}
 use Rattle.calculus.specs.Process.{Process}
 use Rattle.calculus.specs.Status.{Links}
 use Rattle.calculus.specs.Plain.{Label}
-use Rattle.calculus.specs.Places.{Single, label, left, links}
+use Rattle.calculus.specs.Places.{Single, label}
 use Rattle.calculus.specs.Rules.{Rule}
 use Rattle.calculus.specs.Rows.{row-of}
 use Rattle.calculus.proofs.Rules.{to-rules, from-rules}

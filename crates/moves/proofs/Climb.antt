@@ -1,21 +1,33 @@
 -- The climb of a step from its row to row 0, one row above after another. Assumes nothing.
 use mathlib.Core.Path.{_≡_, refl, sym, ap, _∙_, subst}
-use mathlib.Core.Bool.{true}
+use mathlib.Core.Bool.{true, false}
 use mathlib.Core.List.{List}
 use Prim.Native.Nat.{ℕ, _<_}
-use lib.Dec.{ltb}
 use borrow.Author.Tests.{lt-ltb}
+use lib.ListN.{set}
 use Rattle.laws.specs.Lowest.{lowest}
+use Rattle.laws.proofs.Tests.{cond-all, cond-cases}
 use Rattle.laws.proofs.Up.{up-at, below-in}
+use Rattle.calculus.specs.Places.{sets, falsifies}
 use Rattle.steps.specs.InFront.{parentOf, rightOf, leads, reached}
 use Rattle.steps.proofs.InFront.{reached-induction}
 use Rattle.sheet.specs.Table.{rowAt}
 use Rattle.state.specs.declared.State.{State}
-use Rattle.moves.specs.Steps.{marksOf, decidedOf, climbBy, idle, climbed}
+use Rattle.state.specs.State.{decideOf, sideMark}
+use Rattle.moves.specs.Steps.{modeOf, marksOf, remainderIn, falsified, isWaitingPick, otherOf, decidedOf, climbBy, idle, climbed}
+use Rattle.moves.proofs.Falsify.{falsify-marks}
 
 module _ (ts : List ℕ) (n : ℕ) (s : State) where
   abbrev above : ℕ → ℕ
   above = parentOf (rowAt ts)
+
+  -- one decision: whatever holds of the marks with the pick above decided, if it waits, and of the marks as they were
+  pub decided-by : (j : ℕ) (z : State) (C : List ℕ → Type 0) → (isWaitingPick (rowAt ts (above j)) (marksOf s (above j)) ≡ true → C (set (z .marks) (above j) (sideMark (rightOf (rowAt ts) j)))) → (isWaitingPick (rowAt ts (above j)) (marksOf s (above j)) ≡ false → C (z .marks)) → C (decidedOf ts n s j z .marks)
+  unfolding decidedOf falsified
+  decided-by j z C f g =
+      let o : ℕ = otherOf (rowAt ts (above j)) (rightOf (rowAt ts) j) in
+      cond-cases (λ (y : State). C (y .marks)) (isWaitingPick (rowAt ts (above j)) (marksOf s (above j)))
+      (λ e. cond-all (λ (y : State). C (y .marks)) (falsifies (modeOf (s .mode))) (subst C (sym (falsify-marks (sets (remainderIn ts n (marksOf s) o)) 0 64 (decideOf z (above j) (rightOf (rowAt ts) j)))) (f e)) (f e)) g
 
   climbed-up : (j : ℕ) (z : State) → above j < j → climbed ts n s j z ≡ climbed ts n s (above j) (decidedOf ts n s j z)
   unfolding climbed climbBy

@@ -1,5 +1,5 @@
 -- DEMAND 3 over the runs of an accepted table whose verdict is pass. Assumes nothing.
-use mathlib.Core.Path.{_≡_, refl, sym, ap, ap₂, _∙_, subst, subst₂, fun-ext}
+use mathlib.Core.Path.{_≡_, refl, sym, ap, _∙_, subst, subst₂, fun-ext}
 use mathlib.Core.Bool.{true, true≢false}
 use mathlib.Core.List.{List, [], _∷_, map}
 use Prim.Native.Nat.{ℕ}
@@ -10,14 +10,13 @@ use Rattle.laws.proofs.Up.{getD-constant}
 use Rattle.calculus.specs.Process.{Process, Prefix, act, out, join}
 use Rattle.calculus.specs.Status.{Value, Unset, Links, all-unset}
 use Rattle.calculus.specs.Plain.{Label, step, clean}
-use Rattle.calculus.specs.Places.{takes, drops, Mode, plain, cleaning, cleans, Valid, Grows, Move, move, label}
-use Rattle.calculus.specs.Runs.{Run as Moves, strike, trail, last as last-process, last-links, Lists, Alike as Similar}
+use Rattle.calculus.specs.Places.{takes, drops, Mode, plain, cleaning, cleans, Valid, Move, move, label}
+use Rattle.calculus.specs.Runs.{strike, trail, Lists, Alike as Similar}
 use Rattle.calculus.specs.Rows.{row-of}
 use Rattle.calculus.specs.Demand.{Demand3 as Demand3-of}
-use Rattle.conditions.specs.Conditions.{Evaluation}
 use Rattle.conditions.specs.Numbers.{undigit}
 use Rattle.steps.specs.Rows.{term}
-use Rattle.steps.specs.Marks.{Marks, remainder, all-waiting}
+use Rattle.steps.specs.Marks.{Marks, remainder}
 use Rattle.steps.specs.Verdict.{SheetPasses}
 use Rattle.steps.proofs.Marks.{remainder-fresh}
 use Rattle.steps.proofs.Demand.{sheet-demand-3}
@@ -28,8 +27,8 @@ use Rattle.state.specs.declared.State.{State}
 use Rattle.state.specs.declared.StepKind.{StepKind}
 use Rattle.state.specs.declared.StepKind.the-variants.{Act, Set, Open, Clean, Refused}
 use Rattle.state.specs.State.{freshOf}
-use Rattle.moves.specs.Steps.{modeOf, marksOf, linksOf, Sized, nodes, leftIn, kindOf, kindIn, kindAt, hasStep}
-use Rattle.moves.specs.Runs.{Run, Taken, taken, last, struck, rowsOf, Alike, Demand3}
+use Rattle.moves.specs.Steps.{modeOf, linksOf, Sized, nodes, leftIn, kindOf, kindIn, kindAt, hasStep}
+use Rattle.moves.specs.Runs.{Run, Taken, last, struck, rowsOf, Alike, Demand3}
 use Rattle.moves.proofs.Moves.{step-move, move-step}
 use Rattle.moves.proofs.Allowed.{left-single}
 use Rattle.moves.proofs.Runs.{shown, As, to-moves, from-moves, run-kept, valid-run, grows-run}

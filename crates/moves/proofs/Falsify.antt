@@ -11,7 +11,7 @@ use lib.ListN.{getD, set, length, length-set}
 use lib.Seq.{getD-set-same, getD-set-other, set-out}
 use borrow.Author.Tests.{eq-eqb, ne-eqb, lt-ltb, le-ltb}
 use Rattle.laws.proofs.Tests.{cond-all}
-use Rattle.calculus.specs.Status.{Value, Unset, False, Links, truth}
+use Rattle.calculus.specs.Status.{Value, Unset, False, truth}
 use Rattle.calculus.proofs.Order.{true≢unset, false≢unset}
 use Rattle.calculus.specs.Places.{over, false-if, value-if}
 use Rattle.conditions.specs.Numbers.{digit, undigit}

@@ -7,7 +7,7 @@ use mathlib.Core.Option.{some}
 use Prim.Native.Nat.{ℕ, _<_, _≤_}
 use native.Mathlib.Omega.{arith}
 use native.Mathlib.Decide.{decLt}
-use lib.Dec.{eqb, ltb, leb}
+use lib.Dec.{eqb, ltb}
 use lib.ListN.{getD}
 use borrow.Author.Tests.{lt-ltb, le-ltb, leb-true, le-leb, eqb-true, eq-eqb}
 use Rattle.laws.specs.Tests.{or}
@@ -15,11 +15,11 @@ use Rattle.laws.proofs.Tests.{not-both, refuted, cond-all, implied, implies}
 use Rattle.laws.proofs.Up.{getD-constant}
 use Rattle.calculus.specs.Process.{Process, Prefix, act, out, join, pick, flow}
 use Rattle.calculus.specs.Status.{Value, Links}
-use Rattle.calculus.specs.Places.{sets, Place, Turn, takes, drops, after, over, put-on, effect, Mode, falsifies, Allows, Valid, Ready}
+use Rattle.calculus.specs.Places.{sets, Place, Turn, takes, drops, over, Mode, falsifies, Allows, Valid, Ready}
 use Rattle.calculus.proofs.Effects.{effect-out, Valid·after}
 use Rattle.calculus.proofs.Steps.{turn-ready}
 use Rattle.steps.specs.Rows.{Row, NIL, PREFIX, BRANCH}
-use Rattle.steps.specs.Marks.{Marks, stand, open-branches, doneMark}
+use Rattle.steps.specs.Marks.{stand, open-branches, doneMark}
 use Rattle.steps.specs.InFront.{waitsBy, undecided, waiting, waitingStep, reached}
 use Rattle.sheet.specs.Table.{Table, rowAt, evalIn}
 use Rattle.sheet.specs.Accepted.{WellFormed, SingleSource}
@@ -28,8 +28,8 @@ use Rattle.state.specs.State.{freshOf, sideMark}
 use Rattle.moves.specs.Steps.{modeOf, marksOf, linksOf, Sized, nodes, leftIn, turnAt, hasStep, isWaitingPick, steppedOf}
 use Rattle.moves.specs.Fits.{suitsPrefix, suitsBranch, suits, markOk, linkOk, held, waitOk, live, clearPrefix, clearRow, clearOk, Fits}
 use Rattle.moves.proofs.Falsify.{unset-zero, zero-unset}
-use Rattle.moves.proofs.StateAfter.{Is, At, sets-below}
-use Rattle.moves.proofs.Moves.{has-turn, Fronts, turn-fronts, front-parts, stepped-at, left-at, links-at}
+use Rattle.moves.proofs.StateAfter.{Is, sets-below}
+use Rattle.moves.proofs.Moves.{has-turn, turn-fronts, front-parts, stepped-at, left-at, links-at}
 use Rattle.moves.proofs.Allowed.{left-single}
 use Rattle.moves.proofs.Frame.{Change, Frames, step-frames}
 use Rattle.moves.proofs.Held.{reached-free, held-less}

@@ -7,23 +7,22 @@ use mathlib.Core.Option.{some}
 use Prim.Native.Nat.{ℕ, _<_}
 use native.Mathlib.Omega.{arith}
 use lib.ListN.{getD, set}
-use Rattle.laws.proofs.Tests.{cond-all, cond-cases}
-use Rattle.calculus.specs.Process.{Prefix, act, out, join}
-use Rattle.calculus.specs.Places.{sets, Turn, takes, drops, falsifies}
+use Rattle.calculus.specs.Process.{act, out, join}
+use Rattle.calculus.specs.Places.{sets, Turn, takes, drops}
 use Rattle.calculus.specs.Rows.{rows}
 use Rattle.steps.specs.Rows.{Row, NIL, PREFIX, BRANCH, firstOf, term, Child}
-use Rattle.steps.specs.Marks.{Marks, doneMark}
+use Rattle.steps.specs.Marks.{doneMark}
 use Rattle.steps.specs.InFront.{parentOf, rightOf, reached}
 use Rattle.steps.proofs.Tree.{root-in, child-in}
 use Rattle.steps.proofs.Parents.{parent-child}
-use Rattle.sheet.specs.Table.{Table, rowAt}
+use Rattle.sheet.specs.Table.{Table}
 use Rattle.sheet.specs.Accepted.{WellFormed}
 use Rattle.state.specs.declared.State.{State}
-use Rattle.state.specs.State.{passOf, dropOf, decideOf, sideMark}
-use Rattle.moves.specs.Steps.{modeOf, marksOf, nodes, remainderIn, turnAt, hasStep, falsified, isWaitingPick, otherOf, decidedOf, ownLink, ownOf, takenOf, droppedOf, steppedBy, steppedOf}
+use Rattle.state.specs.State.{passOf, dropOf, sideMark}
+use Rattle.moves.specs.Steps.{marksOf, nodes, remainderIn, turnAt, falsified, isWaitingPick, decidedOf, ownLink, ownOf, takenOf, droppedOf, steppedBy, steppedOf}
 use Rattle.moves.proofs.Falsify.{set-cases, falsify-marks}
-use Rattle.moves.proofs.Climb.{climb-induction}
-use Rattle.moves.proofs.Moves.{has-turn, Fronts, turn-fronts, front-parts}
+use Rattle.moves.proofs.Climb.{decided-by, climb-induction}
+use Rattle.moves.proofs.Moves.{turn-fronts, front-parts}
 
 -- row k is a waiting PICK that one reaches, and r stands below it on the side
 pub record PickAbove (t : Table) (s : State) (r k : ℕ) (side : Bool) : Type 0 where
@@ -41,7 +40,7 @@ Change t s r u k x = ((k ≡ r) × (x ≡ doneMark u)) ⊎ ((u ≡ takes) × (si
 abbrev pub Frames : Table → State → ℕ → Turn → State → Type 0
 Frames t s r u z = (k : ℕ) → (marksOf z k ≡ marksOf s k) ⊎ Change t s r u k (marksOf z k)
 
-own-marks : (N : Row) (z : State) → ownOf N z .marks ≡ z .marks
+pub own-marks : (N : Row) (z : State) → ownOf N z .marks ≡ z .marks
 unfolding ownOf ownLink
 own-marks NIL z = refl
 own-marks (PREFIX (act a) c) z = refl
@@ -69,14 +68,9 @@ module _ (t : Table) (w : WellFormed t) (s : State) (r : ℕ) where
   above = parentOf (nodes t)
 
   decided : (j : ℕ) (z : State) → (isWaitingPick (nodes t (above j)) (marksOf s (above j)) ≡ true → PickAbove t s r (above j) (rightOf (nodes t) j)) → Frames t s r takes z → Frames t s r takes (decidedOf (t .terms) (t .n) s j z)
-  unfolding decidedOf
   decided j z p f =
       let side : Bool = rightOf (nodes t) j in
-      cond-cases (Frames t s r takes) (isWaitingPick (nodes t (above j)) (marksOf s (above j)))
-      (λ e.
-      let g : Frames t s r takes (decideOf z (above j) side) = one-mark takes z (above j) (sideMark side) (inr (refl, side, p e, refl)) f in
-      cond-all (Frames t s r takes) (falsifies (modeOf (s .mode))) (false-made takes (otherOf (nodes t (above j)) side) (decideOf z (above j) side) g) g)
-      (λ e. f)
+      decided-by (t .terms) (t .n) s j z (λ (xs : List ℕ). (k : ℕ) → (getD xs k 0 ≡ marksOf s k) ⊎ Change t s r takes k (getD xs k 0)) (λ e. one-mark takes z (above j) (sideMark side) (inr (refl, side, p e, refl)) f) (λ _. f)
 
   module _ (h : r < t .n) (g : reached (nodes t) (marksOf s) r ≡ true) where
     taken-frames : Frames t s r takes (takenOf (t .terms) (t .n) s r)

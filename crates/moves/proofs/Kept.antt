@@ -2,10 +2,8 @@
 use mathlib.Core.Path.{_≡_, sym, ap, _∙_, subst}
 use mathlib.Core.Bool.{Bool, true}
 use mathlib.Core.Logic.{_⊎_, inl, inr, ⊎-elim}
-use mathlib.Core.List.{List, map}
 use Prim.Native.Nat.{ℕ, _≤_}
 use lib.ListN.{length, length-map}
-use Rattle.calculus.specs.Plain.{Label}
 use Rattle.calculus.specs.Places.{Grows}
 use Rattle.calculus.specs.Runs.{trail}
 use Rattle.steps.specs.InFront.{waitingSteps}
@@ -15,7 +13,7 @@ use Rattle.sheet.specs.Accepted.{WellFormed, SingleSource}
 use Rattle.state.specs.declared.State.{State}
 use Rattle.moves.specs.Steps.{marksOf, linksOf, Sized, nodes, hasStep, steppedOf}
 use Rattle.moves.specs.Fits.{Fits}
-use Rattle.moves.specs.Runs.{Run, over, take, Taken, taken, last}
+use Rattle.moves.specs.Runs.{Run, over, take, taken, last}
 use Rattle.moves.proofs.Moves.{has-turn, step-kept}
 use Rattle.moves.proofs.Frame.{PickAbove, step-frames}
 use Rattle.moves.proofs.Runs.{shown, to-moves, grows-run}

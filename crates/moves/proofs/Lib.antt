@@ -6,6 +6,7 @@ pub mod Allowed
 pub mod Runs
 pub mod Demand
 pub mod Frame
+pub mod Decided
 pub mod Held
 pub mod Clear
 pub mod Small

@@ -6,26 +6,25 @@ use Prim.Native.Nat.{ℕ, _<_}
 use lib.Dec.{ltb}
 use borrow.Author.Tests.{ltb-true}
 use Rattle.laws.proofs.Tests.{and-l, and-r}
-use Rattle.calculus.specs.Process.{Process, Prefix, act, out, join}
+use Rattle.calculus.specs.Process.{Process, Prefix}
 use Rattle.calculus.specs.Status.{Value, Links}
 use Rattle.calculus.specs.Plain.{Label}
-use Rattle.calculus.specs.Places.{Place, row, here, Turn, takes, drops, after, put-on, effect, Mode, falsifies, Allows, named, Ready, Move, move, label, left, links}
+use Rattle.calculus.specs.Places.{Place, row, here, Turn, takes, drops, after, put-on, effect, Mode, falsifies, named, Ready, Move, move, label, left, links}
 use Rattle.calculus.specs.Rows.{Distinct, row-of}
 use Rattle.calculus.specs.Steps.{turnOf}
 use Rattle.calculus.proofs.Steps.{turn-ready, ready-turn}
 use Rattle.calculus.proofs.Rows.{one-place, named-row}
 use Rattle.calculus.proofs.Rules.{Is as IsMove}
 use Rattle.steps.specs.Rows.{Row, NIL, PREFIX, BRANCH, term}
-use Rattle.steps.specs.Marks.{Marks, Stand, waits, stand, remainder, marked}
+use Rattle.steps.specs.Marks.{Marks, waits, stand, remainder}
 use Rattle.steps.specs.InFront.{waitsBy, waiting, reached, inFront}
 use Rattle.steps.proofs.Tree.{term-distinct}
 use Rattle.steps.proofs.Marks.{remainder-marked, remainder-distinct}
 use Rattle.steps.proofs.InFront.{waits-is, place-front}
-use Rattle.sheet.specs.Table.{Table, rowAt, evalIn}
+use Rattle.sheet.specs.Table.{Table, evalIn}
 use Rattle.sheet.specs.Accepted.{WellFormed}
 use Rattle.state.specs.declared.State.{State}
-use Rattle.state.specs.declared.StepKind.{StepKind}
-use Rattle.moves.specs.Steps.{modeOf, marksOf, linksOf, Sized, nodes, leftIn, turnBy, turnAt, kindOf, kindIn, kindBy, kindTurned, kindAt, isSome, hasStep, takenOf, droppedOf, steppedBy, steppedOf, Listed}
+use Rattle.moves.specs.Steps.{modeOf, marksOf, linksOf, Sized, nodes, leftIn, turnBy, turnAt, kindIn, kindBy, kindTurned, kindAt, isSome, hasStep, steppedBy, steppedOf, Listed}
 use Rattle.moves.proofs.StateAfter.{Is, At, taken-at, dropped-at}
 
 no-turn : {u : Turn} → none ≡ some u → ⊥

@@ -1,9 +1,7 @@
 -- The runs of an accepted table are the runs of the calculus, step for step. Assumes nothing.
 use mathlib.Core.Path.{_≡_, refl, sym, ap, ap₂, _∙_, subst, subst₂}
-use mathlib.Core.Bool.{true}
-use mathlib.Core.List.{List, [], _∷_, map}
-use Prim.Native.Nat.{ℕ, _≤_}
-use lib.ListN.{length}
+use mathlib.Core.List.{_∷_, map}
+use Prim.Native.Nat.{ℕ}
 use Rattle.calculus.specs.Process.{Process}
 use Rattle.calculus.specs.Status.{Value, Links}
 use Rattle.calculus.specs.Plain.{Label}
@@ -16,7 +14,7 @@ use Rattle.calculus.proofs.Runs.{Valid·run, links-stay}
 use Rattle.sheet.specs.Table.{Table, evalIn}
 use Rattle.sheet.specs.Accepted.{WellFormed, SingleSource}
 use Rattle.state.specs.declared.State.{State}
-use Rattle.moves.specs.Steps.{modeOf, linksOf, Sized, leftIn, kindIn, kindAt, hasStep, steppedOf, Listed}
+use Rattle.moves.specs.Steps.{modeOf, linksOf, Sized, leftIn, kindIn, steppedOf, Listed}
 use Rattle.moves.specs.Runs.{Run, over, take, Taken, taken, last}
 use Rattle.moves.proofs.Moves.{step-move, step-kept}
 use Rattle.moves.proofs.Allowed.{left-single, allowed-listed}

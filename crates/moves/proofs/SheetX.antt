@@ -1,5 +1,5 @@
 -- Sheet X of document 01: its cases on listing, computed from its bytes. Assumes nothing.
-use Prim.Native.Nat.{ℕ, zero, suc}
+use Prim.Native.Nat.{ℕ}
 use mathlib.Core.Path.{_≡_, refl}
 use mathlib.Core.List.{List, [], _∷_, map}
 use lib.ListN.{getD}
@@ -20,7 +20,7 @@ use Rattle.sheet.specs.Table.{Table, rowBy, rowAt, operatorOf, conditionRowBy, 
 use Rattle.evaluate.specs.Values.{linksIn}
 use Rattle.state.specs.declared.State.{State}
 use Rattle.state.specs.declared.StepKind.{StepKind}
-use Rattle.state.specs.declared.StepKind.the-variants.{Act, Set, Open, Clean, Refused}
+use Rattle.state.specs.declared.StepKind.the-variants.{Act, Set, Open, Clean}
 use Rattle.state.specs.State.{freshOf}
 use Rattle.moves.specs.Steps.{modeOf, turnBy, turnAt, kindOf, kindBy, kindTurned, kindAt, hasStep, listedOf, falsifyFrom, falsified, isWaitingPick, decidedOf, climbBy, climbed, ownLink, ownOf, takenOf, droppedOf, steppedBy, steppedOf}
 

@@ -1,5 +1,5 @@
 -- (b) Link values stay 0 to 2. Assumes nothing.
-use mathlib.Core.Path.{_≡_, refl, sym, subst}
+use mathlib.Core.Path.{_≡_, sym, subst}
 use mathlib.Core.Bool.{Bool, true, false}
 use mathlib.Core.Logic.{⊎-elim}
 use mathlib.Core.Option.{some}
@@ -7,8 +7,7 @@ use Prim.Native.Nat.{ℕ, zero, suc, _<_, _≤_}
 use native.Mathlib.Omega.{arith}
 use lib.ListN.{getD}
 use Rattle.laws.proofs.Tests.{cond-all}
-use Rattle.calculus.specs.Process.{Prefix, act, out, join}
-use Rattle.calculus.specs.Status.{truth}
+use Rattle.calculus.specs.Process.{act, out, join}
 use Rattle.calculus.specs.Places.{sets, Turn, takes, drops, falsifies}
 use Rattle.conditions.specs.Numbers.{digit}
 use Rattle.steps.specs.Rows.{Row, NIL, PREFIX, BRANCH, firstOf}

@@ -8,18 +8,18 @@ use native.Mathlib.Omega.{arith}
 use lib.Dec.{eqb}
 use lib.ListN.{getD, set}
 use Rattle.laws.proofs.Tests.{contra, refuted, cond-all}
-use Rattle.calculus.specs.Process.{Process, prefix, branch, Prefix, act, out, join, Branching, pick, flow}
+use Rattle.calculus.specs.Process.{Process, prefix, branch, Prefix, act, out, join, pick, flow}
 use Rattle.calculus.specs.Status.{Value, Unset, False, True}
 use Rattle.calculus.specs.Places.{sets, Place, row, here, Turn, takes, drops, decides, over, false-if, given, effect, falsifies}
 use Rattle.steps.specs.Rows.{Row, NIL, PREFIX, BRANCH, firstOf, secondOf, term, Kids, Child}
-use Rattle.steps.specs.Marks.{Marks, Stand, waits, passed, stand, Open, both, left, right, open-branches, afterMark, afterTaken, mark, doneMark, marked}
+use Rattle.steps.specs.Marks.{Stand, waits, stand, Open, both, left, right, open-branches, afterMark, afterTaken, mark, marked}
 use Rattle.steps.specs.InFront.{parentOf, rightOf, undecided, opens, leads, reached}
 use Rattle.steps.proofs.Parents.{parent-child}
 use Rattle.steps.proofs.Remainder.{remainderBy, remainder-at}
 use Rattle.steps.proofs.Marks.{remainder-sets}
 use Rattle.steps.proofs.Sources.{sets-source}
 use Rattle.steps.proofs.InFront.{passed-is, reached-induction}
-use Rattle.sheet.specs.Table.{Table, rowAt}
+use Rattle.sheet.specs.Table.{Table}
 use Rattle.sheet.specs.Accepted.{WellFormed}
 use Rattle.state.specs.declared.State.{State}
 use Rattle.state.specs.State.{passOf, dropOf, decideOf, sideMark}

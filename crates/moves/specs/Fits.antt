@@ -13,7 +13,7 @@ use Rattle.steps.specs.Marks.{Marks, Stand, waits, passed, dropped, stand, open
 use Rattle.steps.specs.InFront.{waitsBy, waiting, waitingStep, opens, inherited}
 use Rattle.sheet.specs.Table.{Table, rowAt}
 use Rattle.state.specs.declared.State.{State}
-use Rattle.moves.specs.Steps.{modeOf, marksOf, nodes}
+use Rattle.moves.specs.Steps.{modeOf, marksOf}
 
 -- (a) "0 waiting; 1 passed (ACT, OUT, JOIN); 2 left taken, 3 right taken (PICK); 4 dropped (JOIN, cleaning only). NIL and FLOW stay 0."
 unfoldable pub suitsPrefix : Mode → Prefix → ℕ → Bool

@@ -1,5 +1,5 @@
 -- Document 01, "State and steps": which step a row has in a state, the list of steps, and the state after a step. Every definition is total: any table, any state, any row.
-use mathlib.Core.Bool.{Bool, true, false, cond, _&&_}
+use mathlib.Core.Bool.{Bool, true, false, cond}
 use mathlib.Core.Path.{_≡_}
 use mathlib.Core.Option.{Option, none, some}
 use mathlib.Core.List.{List}
@@ -8,7 +8,7 @@ use lib.Dec.{eqb, ltb}
 use lib.ListN.{getD, length}
 use Rattle.laws.specs.Up.{up}
 use Rattle.laws.specs.Listed.{listed}
-use Rattle.calculus.specs.Process.{Process, Prefix, act, out, join, Branching, pick, flow}
+use Rattle.calculus.specs.Process.{Process, Prefix, act, out, join, pick, flow}
 use Rattle.calculus.specs.Status.{Links, truth}
 use Rattle.calculus.specs.Plain.{Label, step, clean}
 use Rattle.calculus.specs.Places.{sets, Turn, takes, drops, Mode, plain, cleaning, falsifies}
