@@ -1,7 +1,7 @@
 -- What tests tell: cases, `or`, `&&`, `cond`, and sets that are apart. Assumes nothing.
 use Prim.Native.Nat.{ℕ}
 use mathlib.Core.Path.{_≡_, refl, sym, _∙_, ap}
-use mathlib.Core.Bool.{Bool, true, false, cond, _&&_, true≢false}
+use mathlib.Core.Bool.{Bool, true, false, cond, _&&_, not, true≢false}
 use mathlib.Core.Logic.{_⊎_, inl, inr}
 use lib.Dec.{eqb}
 use borrow.Author.Tests.{eq-eqb}
@@ -35,6 +35,11 @@ pub cond-map : {A B : Type 0} (f : A → B) (b : Bool) (x y : A) → f (cond b x
 cond-map f true x y = refl
 cond-map f false x y = refl
 
+-- ... and each side is asked only where the test says so
+pub cond-cases : {A : Type 0} (C : A → Type 0) (b : Bool) {x y : A} → (b ≡ true → C x) → (b ≡ false → C y) → C (cond b x y)
+cond-cases C true p q = p refl
+cond-cases C false p q = q refl
+
 -- the first side is asked only where the test holds
 pub cond-same : {A : Type 0} (b : Bool) {x y : A} (d : A) → (b ≡ true → x ≡ y) → cond b x d ≡ cond b y d
 cond-same true d h = h refl
@@ -62,6 +67,17 @@ pub or-r : (a : Bool) {b : Bool} → b ≡ true → or a b ≡ true
 unfolding or
 or-r true p = refl
 or-r false p = p
+
+-- a test that is asked only where another holds
+pub implied : (a : Bool) {b : Bool} → (a ≡ true → b ≡ true) → or (not a) b ≡ true
+unfolding or
+implied true h = h refl
+implied false h = refl
+
+pub implies : (a : Bool) {b : Bool} → or (not a) b ≡ true → a ≡ true → b ≡ true
+unfolding or
+implies true e p = e
+implies false e p = absurd (true≢false (sym p))
 
 pub and-l : (a b : Bool) → (a && b) ≡ true → a ≡ true
 and-l true b e = refl

@@ -15,3 +15,8 @@ Set = ℕ → Bool
 -- no number is in both
 abbrev pub Apart : Set → Set → Type 0
 Apart A B = (k : ℕ) → A k ≡ true → B k ≡ false
+
+-- a test as a number
+abbrev pub bit : Bool → ℕ
+bit true = 1
+bit false = 0

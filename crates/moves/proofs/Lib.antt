@@ -1,0 +1,15 @@
+pub mod Falsify
+pub mod Climb
+pub mod StateAfter
+pub mod Moves
+pub mod Allowed
+pub mod Runs
+pub mod Demand
+pub mod Frame
+pub mod Decided
+pub mod Held
+pub mod Clear
+pub mod Small
+pub mod Fits
+pub mod Kept
+pub mod SheetX

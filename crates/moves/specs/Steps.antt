@@ -1,15 +1,19 @@
 -- Document 01, "State and steps": which step a row has in a state, the list of steps, and the state after a step. Every definition is total: any table, any state, any row.
 use mathlib.Core.Bool.{Bool, true, false, cond}
+use mathlib.Core.Path.{_≡_}
 use mathlib.Core.Option.{Option, none, some}
 use mathlib.Core.List.{List}
 use Prim.Native.Nat.{ℕ, zero, suc}
 use lib.Dec.{eqb, ltb}
-use lib.ListN.{getD}
+use lib.ListN.{getD, length}
+use Rattle.laws.specs.Tests.{bit}
 use Rattle.laws.specs.Up.{up}
 use Rattle.laws.specs.Listed.{listed}
 use Rattle.calculus.specs.Process.{Process, Prefix, act, out, join, pick, flow}
 use Rattle.calculus.specs.Status.{Links, truth}
+use Rattle.calculus.specs.Plain.{Label, step, clean}
 use Rattle.calculus.specs.Places.{sets, Turn, takes, drops, Mode, plain, cleaning, falsifies}
+use Rattle.calculus.specs.Rows.{row-of}
 use Rattle.calculus.specs.Steps.{turnOf}
 use Rattle.conditions.specs.Numbers.{digit}
 use Rattle.steps.specs.Rows.{Row, NIL, PREFIX, BRANCH, firstOf, secondOf, term}
@@ -32,12 +36,21 @@ marksOf s k = getD (s .marks) k 0
 abbrev pub linksOf : State → Links
 linksOf s = linksIn (s .links)
 
+-- of the right size, as every state of the program is
+pub record Sized (s : State) : Type 0 where
+  pub all-marks : length (s .marks) ≡ 256
+  pub all-links : length (s .links) ≡ 64
+
 abbrev pub nodes : Table → ℕ → Row
 nodes t = rowAt (t .terms)
 
 -- the remainder of a row
 abbrev pub remainderIn : List ℕ → ℕ → Marks → ℕ → Process
 remainderIn ts n μ i = remainder μ (term (rowAt ts) n i)
+
+-- what is left of the sheet in a state
+abbrev pub leftIn : Table → State → Process
+leftIn t s = remainderIn (t .terms) (t .n) (marksOf s) 0
 
 -- "ACT in front: passed. OUT in front: passed. JOIN in front with a true condition: passed. JOIN in front with a false condition, cleaning mode only: dropped."
 unfoldable pub turnBy : (Prefix → Option Turn) → Row → Option Turn
@@ -49,14 +62,15 @@ unfoldable pub turnAt : Table → State → ℕ → Option Turn
 turnAt t s r = cond (inFront (nodes t) (marksOf s) (t .n) r) (turnBy (λ π. turnOf (evalIn t) (modeOf (s .mode)) π (linksOf s)) (nodes t r)) none
 
 -- "act" with the activity, "set" with link and 0 or 1, "open" or "clean"; 11 where there is no step
-abbrev pub bit : Bool → ℕ
-bit true = 1
-bit false = 0
-
 unfoldable pub kindOf : Prefix → StepKind
 kindOf (act a) = Act a
 kindOf (out l b) = Set l (bit b)
 kindOf (join c) = Open
+
+-- a label of R shows its row and a kind: what stands there, or that it was cleaned away
+unfoldable pub kindIn : Label → StepKind
+kindIn (step r π) = kindOf π
+kindIn (clean r) = Clean
 
 unfoldable pub kindBy : Row → StepKind
 kindBy NIL = Open
@@ -144,3 +158,10 @@ steppedBy t s r (some drops) = droppedOf (t .terms) (t .n) s r
 
 unfoldable pub steppedOf : Table → State → ℕ → State
 steppedOf t s r = steppedBy t s r (turnAt t s r)
+
+-- A step of R is listed: its row has a step, of the label's kind, which leads to what R says is left, and to R's links.
+pub record Listed (t : Table) (s : State) (α : Label) (P : Process) (v : Links) : Type 0 where
+  pub there : hasStep t s (row-of α) ≡ true
+  pub kind : kindAt t s (row-of α) ≡ kindIn α
+  pub leaves : leftIn t (steppedOf t s (row-of α)) ≡ P
+  pub sets : linksOf (steppedOf t s (row-of α)) ≡ v

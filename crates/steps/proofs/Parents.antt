@@ -1,16 +1,17 @@
 -- The parent of a row: found where some row names it, and the one row that does. Assumes nothing.
-use Prim.Native.Nat.{ℕ, _+_, _<_}
+use Prim.Native.Nat.{ℕ, zero, suc, _+_, _<_}
 use mathlib.Core.Path.{_≡_, refl, sym, ap, _∙_}
-use mathlib.Core.Bool.{Bool, true, false, not}
-use mathlib.Core.Logic.{⊎-elim}
+use mathlib.Core.Bool.{Bool, true, false, _&&_, not}
+use mathlib.Core.Logic.{⊎-elim, by-cases}
 use native.Mathlib.Omega.{arith}
+use native.Mathlib.Decide.{decLt}
 use lib.Dec.{eqb}
 use borrow.Author.Tests.{eqb-true, eq-eqb, ne-eqb}
 use Rattle.laws.specs.Lowest.{lowest}
-use Rattle.laws.proofs.Tests.{not-both, or-true, or-l, or-r}
+use Rattle.laws.proofs.Tests.{and-l, and-r, not-both, or-true, or-l, or-r}
 use Rattle.laws.proofs.Lowest.{lowest-at, lowest-found}
 use Rattle.laws.specs.Up.{below}
-use Rattle.laws.proofs.Up.{up-at, below-in}
+use Rattle.laws.proofs.Up.{up-at, below-in, below-out}
 use Rattle.steps.specs.Rows.{Row, NIL, PREFIX, BRANCH, firstOf, secondOf, Kids, Child, Once}
 use Rattle.steps.specs.InFront.{names, parentOf, rightOf, inheritedBy, inherited}
 use Rattle.steps.proofs.Tree.{child-above}
@@ -91,3 +92,28 @@ module _ {A : Type 0} (node : ℕ → Row) (none top : A) (next : ℕ → Bool �
       let (p, q) = parent-is node n kids once i j s h c in
       let (a, b) = child-above i n j (node i) s (kids i h) c in
       inherited-at j (omega arith) ∙ rw (p, q, below-in none (inherited node none top next) j i a) refl
+
+-- A walk: from row 0 through rows that all let one pass, to one side or to the other.
+module _ (node : ℕ → Row) (pass : ℕ → Bool → Bool) where
+  abbrev pub walk : ℕ → Bool
+  walk = inherited node false true (λ p s b. b && pass p s)
+
+  -- one comes to a row from its parent
+  pub walk-parent : (j : ℕ) → 0 < j → walk j ≡ true → (parentOf node j < j) × (walk (parentOf node j) ≡ true) × (pass (parentOf node j) (rightOf node j) ≡ true)
+  walk-parent j h e =
+      let w = sym (inherited-at node false true (λ p s b. b && pass p s) j h) ∙ e in
+      by-cases (decLt (parentOf node j) j)
+      (λ l. (l, sym (below-in false walk j (parentOf node j) l) ∙ and-l _ _ w, and-r (below false walk j (parentOf node j)) _ w))
+      (λ l. absurd (not-both (and-l _ _ w) (below-out false walk j (parentOf node j) (omega arith))))
+
+  -- what goes from each row that one comes to on to its parent comes to row 0
+  pub walk-induction : (C : ℕ → Type 0) → ((j : ℕ) → parentOf node j < j → walk (parentOf node j) ≡ true → pass (parentOf node j) (rightOf node j) ≡ true → C j → C (parentOf node j)) → (j : ℕ) → walk j ≡ true → C j → C 0
+  walk-induction C s j e c = go (suc j) j (omega arith) e c
+    where
+      go : (f j : ℕ) → j < f → walk j ≡ true → C j → C 0
+      go zero j a e c = absurd (let z : ⊥ = omega arith in z)
+      go (suc f) zero a e c = c
+      go (suc f) (suc j) a e c = let (l, b, g) = walk-parent (suc j) (omega arith) e in go f (parentOf node (suc j)) (omega arith) b (s (suc j) l b g c)
+
+  pub walk-child : (n : ℕ) → ((i : ℕ) → i < n → Kids i n (node i)) → Once node n → (i j : ℕ) (s : Bool) → i < n → Child (node i) s j → walk i ≡ true → pass i s ≡ true → walk j ≡ true
+  walk-child n kids once i j s h c e l = inherited-child node false true (λ p s b. b && pass p s) n kids once i j s h c ∙ rw (e, l) refl

@@ -10,12 +10,12 @@ use lib.Dec.{eqb, ltb}
 use lib.ListN.{getD, set, length, length-set, replicate}
 use lib.Seq.{getD-set-same, getD-set-other}
 use borrow.Author.Tests.{eq-eqb, ne-eqb, lt-ltb, le-ltb}
-use Rattle.laws.specs.Tests.{or}
+use Rattle.laws.specs.Tests.{or, bit}
 use Rattle.laws.proofs.Tests.{and-false}
 use Rattle.laws.proofs.Up.{getD-constant}
 use Rattle.steps.specs.Rows.{Row, firstOf, secondOf, Child, Tree}
 use Rattle.steps.specs.InFront.{parentOf, rightOf, inherited}
-use Rattle.steps.specs.Push.{bit, setIf, handed, Pushed}
+use Rattle.steps.specs.Push.{setIf, handed, Pushed}
 use Rattle.steps.proofs.Tree.{child-above}
 use Rattle.steps.proofs.Parents.{childAt, child-number, number-child, parent-child, parent-is, inherited-root, inherited-child}
 

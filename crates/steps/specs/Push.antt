@@ -5,13 +5,9 @@ use mathlib.Core.Bool.{Bool, true, false, cond, _&&_, not}
 use mathlib.Core.List.{List}
 use lib.Dec.{eqb, ltb}
 use lib.ListN.{getD, set, length}
-use Rattle.laws.specs.Tests.{or}
+use Rattle.laws.specs.Tests.{or, bit}
 use Rattle.steps.specs.Rows.{Row, firstOf, secondOf}
 use Rattle.steps.specs.InFront.{parentOf}
-
-abbrev pub bit : Bool → ℕ
-bit true = 1
-bit false = 0
 
 unfoldable pub setIf : Bool → ℕ → List ℕ → List ℕ
 setIf b k t = cond b (set t k 1) t
