@@ -113,30 +113,6 @@ fn term_row(
     }
 }
 
-// The only or left child that a row names, and the right one; 0 for none.
-fn first_by(kind: u8, a: u8, b: u8, c: u8) -> u8
-    ensures { λ r. ⌜ r ≡ firstOf (rowBy kind a b c) ⌝ }
-{
-    match kind {
-        1 => b,
-        2 => c,
-        3 => b,
-        4 => a,
-        5 => a,
-        _ => 0,
-    }
-}
-
-fn second_by(kind: u8, a: u8, b: u8, c: u8) -> u8
-    ensures { λ r. ⌜ r ≡ secondOf (rowBy kind a b c) ⌝ }
-{
-    match kind {
-        4 => b,
-        5 => b,
-        _ => 0,
-    }
-}
-
 // One more at a key; two stands for any more.
 fn bump(counts: &mut [u8; 256], key: u8)
     ensures { λ _. ⌜ now (counts .exit) ≡ bumped (now (counts .entry)) key ⌝ }
@@ -150,8 +126,8 @@ fn bump(counts: &mut [u8; 256], key: u8)
 fn note_children(named: &mut [u8; 256], kind: u8, a: u8, b: u8, c: u8)
     ensures { λ _. ⌜ now (named .exit) ≡ bumped (bumped (now (named .entry)) (firstOf (rowBy kind a b c))) (secondOf (rowBy kind a b c)) ⌝ }
 {
-    bump(named, first_by(kind, a, b, c));
-    bump(named, second_by(kind, a, b, c));
+    bump(named, rows::first_by(kind, a, b, c));
+    bump(named, rows::second_by(kind, a, b, c));
 }
 
 fn note_source(out: &mut [u8; 256], kind: u8, a: u8)

@@ -57,15 +57,22 @@ module _ (node : ℕ → Row) (n : ℕ) (tree : Tree node n) (few : n ≤ 256) (
       root true = refl
       root false = refl
 
-  -- a row's own test is there when its turn comes
-  pub pushed-own : (i : ℕ) (t : List ℕ) → i < n → Pushed node v n i t → getD t i 0 ≡ bit (v i)
+  -- a row has its own test once its parent has had its turn, so when its own turn comes, and at the end
+  told : (i j : ℕ) (t : List ℕ) → j < n → j ≤ i → Pushed node v n i t → getD t j 0 ≡ bit (v j)
   unfolding Pushed or
-  pushed-own i t h p =
-      p .1 i h ∙ by-cases (ℕ-discrete i 0)
-      (λ (e : i ≡ 0). rw (eq-eqb i 0 e) refl)
-      (λ (e : i ≡ 0 → ⊥). let (q, s, b, c) = tree .named i (omega arith) h in let (f, g) = parent-is node n (tree .kids) (tree .once) q i s b c in let (x, y) = child-above q n i (node q) s (tree .kids q b) c in rw (ne-eqb i 0 e, f, lt-ltb q i x) refl)
+  told i j t h l p =
+      p .1 j h ∙ by-cases (ℕ-discrete j 0)
+      (λ (e : j ≡ 0). rw (eq-eqb j 0 e) refl)
+      (λ (e : j ≡ 0 → ⊥). let (q, s, b, c) = tree .named j (omega arith) h in let (f, g) = parent-is node n (tree .kids) (tree .once) q j s b c in let (x, y) = child-above q n j (node q) s (tree .kids q b) c in rw (ne-eqb j 0 e, f, lt-ltb q i (omega arith)) refl)
 
-  module _ (i : ℕ) (h : i < n) (t t′ : List ℕ) (p : Pushed node v n i t) (told : t′ ≡ handed t (node i) (next i false (v i)) (next i true (v i))) where
+  pub pushed-own : (i : ℕ) (t : List ℕ) → i < n → Pushed node v n i t → getD t i 0 ≡ bit (v i)
+  pushed-own i t h p = told i i t h (omega arith) p
+
+  pub pushed-all : (t : List ℕ) → Pushed node v n n t → (length t ≡ 256) × ((j : ℕ) → j < n → getD t j 0 ≡ bit (v j))
+  unfolding Pushed
+  pushed-all t p = (p .0, λ j h. told n j t h (omega arith) p)
+
+  module _ (i : ℕ) (h : i < n) (t t′ : List ℕ) (p : Pushed node v n i t) (made : t′ ≡ handed t (node i) (next i false (v i)) (next i true (v i))) where
     abbrev a : Bool
     a = next i false (v i)
 
@@ -146,4 +153,4 @@ module _ (node : ℕ → Row) (n : ℕ) (tree : Tree node n) (few : n ≤ 256) (
 
     pub pushed-more : Pushed node v n (i + 1) t′
     unfolding Pushed
-    pushed-more = rw told (lengths, at-row)
+    pushed-more = rw made (lengths, at-row)

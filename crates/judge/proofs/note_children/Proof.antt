@@ -4,8 +4,8 @@ use Rattle.judge.proofs.note_children.Tie as tie
 use Rattle.judge.proofs.note_children.Reads as reads
 use Rattle.judge.proofs.note_children.Lts as lts
 use Rattle.judge.proofs.bump.Reads as bump-reads
-use Rattle.judge.proofs.first_by.Reads as first-by-reads
-use Rattle.judge.proofs.second_by.Reads as second-by-reads
+use Rattle.rows.proofs.first_by.Reads as first-by-reads
+use Rattle.rows.proofs.second_by.Reads as second-by-reads
 
 -- src/lib.rt:144:17
 first-by-requires : tie.Need-first-by-requires

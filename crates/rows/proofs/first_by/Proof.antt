@@ -3,10 +3,10 @@ use borrow.Author.Tests.{ne-eqb}
 use Rattle.steps.specs.Rows.{firstOf}
 use Rattle.sheet.specs.Table.{rowBy}
 use Rattle.sheet.proofs.Rows.{row-other}
-use Rattle.judge.proofs.first_by.Statement.{statement}
-use Rattle.judge.proofs.first_by.Tie as tie
-use Rattle.judge.proofs.first_by.Reads as reads
-use Rattle.judge.proofs.first_by.Lts as lts
+use Rattle.rows.proofs.first_by.Statement.{statement}
+use Rattle.rows.proofs.first_by.Tie as tie
+use Rattle.rows.proofs.first_by.Reads as reads
+use Rattle.rows.proofs.first_by.Lts as lts
 
 -- src/lib.rt:108:1
 returns : tie.Need-returns

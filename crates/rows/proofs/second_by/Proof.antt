@@ -3,10 +3,10 @@ use borrow.Author.Tests.{ne-eqb}
 use Rattle.steps.specs.Rows.{secondOf}
 use Rattle.sheet.specs.Table.{rowBy}
 use Rattle.sheet.proofs.Rows.{row-one-child}
-use Rattle.judge.proofs.second_by.Statement.{statement}
-use Rattle.judge.proofs.second_by.Tie as tie
-use Rattle.judge.proofs.second_by.Reads as reads
-use Rattle.judge.proofs.second_by.Lts as lts
+use Rattle.rows.proofs.second_by.Statement.{statement}
+use Rattle.rows.proofs.second_by.Tie as tie
+use Rattle.rows.proofs.second_by.Reads as reads
+use Rattle.rows.proofs.second_by.Lts as lts
 
 -- src/lib.rt:121:1
 returns : tie.Need-returns

@@ -1,0 +1,43 @@
+-- One pass over the rows answers what is asked of each. Assumes nothing.
+use Prim.Native.Nat.{ℕ, _+_, _<_, _≤_}
+use mathlib.Core.Path.{_≡_, refl, _∙_, ap}
+use mathlib.Core.Bool.{Bool, true, false}
+use mathlib.Core.List.{List}
+use lib.Dec.{eqb}
+use lib.ListN.{getD, set, replicate}
+use Rattle.laws.specs.Tests.{bit}
+use Rattle.steps.specs.Rows.{Row, Tree}
+use Rattle.steps.specs.Marks.{Marks}
+use Rattle.steps.specs.Push.{setIf, handed, Pushed}
+use Rattle.steps.proofs.Push.{pushed-none, pushed-own, pushed-all, pushed-more}
+use Rattle.front.specs.Asked.{nextOf, topOf, askedAt, Shows}
+
+pub bit-one : (b : Bool) → eqb (bit b) 1 ≡ b
+bit-one true = refl
+bit-one false = refl
+
+start : (b : Bool) → set (replicate 256 0) 0 (bit b) ≡ setIf b 0 (replicate 256 0)
+unfolding setIf
+start true = refl
+start false = refl
+
+module _ (q : ℕ) (node : ℕ → Row) (μ : Marks) (n : ℕ) (tree : Tree node n) (few : n ≤ 256) where
+  pub asked-none : (x : ℕ) → x ≡ bit (topOf q) → Pushed node (askedAt q node μ) n 0 (set (replicate 256 0) 0 x)
+  unfolding askedAt
+  asked-none x e = rw (e, start (topOf q)) (pushed-none node n tree few (topOf q) (λ p s b. nextOf q (node p) (μ p) s b))
+
+  pub asked-own : (i : ℕ) (t : List ℕ) → i < n → Pushed node (askedAt q node μ) n i t → eqb (getD t i 0) 1 ≡ askedAt q node μ i
+  unfolding askedAt
+  asked-own i t h p = ap (λ (x : ℕ). eqb x 1) (pushed-own node n tree few (topOf q) (λ p s b. nextOf q (node p) (μ p) s b) i t h p) ∙ bit-one _
+
+  more : (i : ℕ) (t t′ : List ℕ) → i < n → Pushed node (askedAt q node μ) n i t → t′ ≡ handed t (node i) (nextOf q (node i) (μ i) false (askedAt q node μ i)) (nextOf q (node i) (μ i) true (askedAt q node μ i)) → Pushed node (askedAt q node μ) n (i + 1) t′
+  unfolding askedAt
+  more i t t′ h p e = pushed-more node n tree few (topOf q) (λ p s b. nextOf q (node p) (μ p) s b) i h t t′ p e
+
+  pub asked-more : (i : ℕ) (t t′ : List ℕ) (a b : Bool) → i < n → Pushed node (askedAt q node μ) n i t →
+      a ≡ nextOf q (node i) (μ i) false (eqb (getD t i 0) 1) → b ≡ nextOf q (node i) (μ i) true (eqb (getD t i 0) 1) → t′ ≡ handed t (node i) a b → Pushed node (askedAt q node μ) n (i + 1) t′
+  asked-more i t t′ a b h p f g e = more i t t′ h p (e ∙ (ap (λ (x : Bool). handed t (node i) x b) (f ∙ ap (nextOf q (node i) (μ i) false) (asked-own i t h p)) ∙ ap (λ (x : Bool). handed t (node i) (nextOf q (node i) (μ i) false (askedAt q node μ i)) x) (g ∙ ap (nextOf q (node i) (μ i) true) (asked-own i t h p))))
+
+  pub asked-all : (t : List ℕ) → Pushed node (askedAt q node μ) n n t → Shows (askedAt q node μ) n t
+  unfolding askedAt
+  asked-all t p = let (l, f) = pushed-all node n tree few (topOf q) (λ p s b. nextOf q (node p) (μ p) s b) t p in record { size = l; at = f }

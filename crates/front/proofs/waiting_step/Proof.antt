@@ -1,0 +1,42 @@
+use mathlib.Core.Path.{sym}
+use borrow.Author.Tests.{ne-eqb}
+use Rattle.steps.specs.InFront.{waitingStep}
+use Rattle.sheet.specs.Table.{rowBy, rowAt}
+use Rattle.front.proofs.ByKind.{waits-mark, waiting-other}
+use borrow.Author.Needs.{needs}
+use Rattle.front.proofs.waiting_step.Statement.{statement}
+use Rattle.front.proofs.waiting_step.Tie as tie
+use Rattle.front.proofs.waiting_step.Reads as reads
+use Rattle.front.proofs.waiting_step.Lts as lts
+
+-- src/lib.rt:54:14
+mul-match : tie.Need-mul-match
+mul-match c = search needs
+
+-- src/lib.rt:54:11
+shared-slice-read-match : tie.Need-shared-slice-read-match
+shared-slice-read-match c = search needs
+
+-- src/lib.rt:50:1
+returns : tie.Need-returns
+unfolding rowAt rowBy waitingStep
+returns c = rw (c .match .keys1) (sym (waits-mark _))
+
+-- src/lib.rt:50:1
+returns-2 : tie.Need-returns-2
+unfolding rowAt rowBy waitingStep
+returns-2 c = rw (c .match .keys2) (sym (waits-mark _))
+
+-- src/lib.rt:50:1
+returns-3 : tie.Need-returns-3
+unfolding rowAt rowBy waitingStep
+returns-3 c = rw (c .match .keys3) (sym (waits-mark _))
+
+-- src/lib.rt:50:1
+returns-4 : tie.Need-returns-4
+unfolding rowAt
+returns-4 c = let m = c .match .rest in sym (waiting-other _ _ _ _ _ (ne-eqb _ 1 (m .0 .0 .1)) (ne-eqb _ 2 (m .0 .1)) (ne-eqb _ 3 (m .1)))
+
+pub waiting-step-spec : {M : Type 1} → statement M
+waiting-step-spec =
+    tie.close (tie.spec mul-match shared-slice-read-match returns returns-2 returns-3 returns-4)
