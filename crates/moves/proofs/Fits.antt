@@ -61,6 +61,9 @@ unset-clears (PREFIX (out l b) c) m links z = implied (waitsBy (stand m)) (λ e.
 unset-clears (PREFIX (join q) c) m links z = implied (waitsBy (stand m)) (λ e. refl)
 unset-clears (BRANCH κ p q) m links z = refl
 
+pub fresh-sized : (mode : ℕ) → Sized (freshOf mode)
+fresh-sized mode = record { all-marks = refl; all-links = refl }
+
 pub fresh-fits : (t : Table) (mode : ℕ) → Fits t (freshOf mode)
 unfolding markOk linkOk waitOk clearOk
 fresh-fits t mode = record {
