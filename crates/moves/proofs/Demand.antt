@@ -27,16 +27,16 @@ use Rattle.moves.proofs.Fits.{fresh-sized, fresh-fits}
 use Rattle.moves.proofs.Kept.{fits-run, links-never-alter}
 
 -- striking, and the rows, of what labels show
-struck-one : (r : ℕ) (π : Prefix) (l : List Taken) (α : List Label) → struck (map shown α) ≡ l → struck (shown (step r π) ∷ map shown α) ≡ shown (step r π) ∷ l
+struck-one : (r : ℕ) (π : Prefix) (l : List Taken) → struck (shown (step r π) ∷ l) ≡ shown (step r π) ∷ struck l
 unfolding struck kindIn kindOf
-struck-one r (act a) l α e = ap (λ (l : List Taken). shown (step r (act a)) ∷ l) e
-struck-one r (out k b) l α e = ap (λ (l : List Taken). shown (step r (out k b)) ∷ l) e
-struck-one r (join c) l α e = ap (λ (l : List Taken). shown (step r (join c)) ∷ l) e
+struck-one r (act a) l = refl
+struck-one r (out k b) l = refl
+struck-one r (join c) l = refl
 
 struck-shown : (l : List Label) → struck (map shown l) ≡ map shown (strike l)
 unfolding struck strike kindIn
 struck-shown [] = refl
-struck-shown (step r π ∷ l) = struck-one r π (map shown (strike l)) l (struck-shown l)
+struck-shown (step r π ∷ l) = struck-one r π (map shown l) ∙ ap (λ (k : List Taken). shown (step r π) ∷ k) (struck-shown l)
 struck-shown (clean r ∷ l) = struck-shown l
 
 rows-shown : (l : List Label) → rowsOf (map shown l) ≡ map row-of l
