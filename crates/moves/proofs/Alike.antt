@@ -2,7 +2,7 @@
 use mathlib.Core.Path.{_≡_, sym, ap, _∙_, subst}
 use mathlib.Core.Bool.{true, true≢false}
 use Prim.Native.Nat.{ℕ}
-use Rattle.calculus.specs.Process.{Prefix, act, out, join}
+use Rattle.calculus.specs.Process.{Prefix}
 use Rattle.calculus.specs.Status.{Value, Links}
 use Rattle.calculus.specs.Plain.{Label, step, clean}
 use Rattle.calculus.specs.Places.{takes, drops, Mode, plain, cleaning, cleans, Move, move, label}
@@ -11,25 +11,10 @@ use Rattle.calculus.specs.Rows.{row-of}
 use Rattle.sheet.specs.Table.{Table, evalIn}
 use Rattle.sheet.specs.Accepted.{WellFormed}
 use Rattle.state.specs.declared.State.{State}
-use Rattle.state.specs.declared.StepKind.{StepKind}
-use Rattle.state.specs.declared.StepKind.the-variants.{Act, Set, Open, Clean, Refused}
+use Rattle.state.specs.declared.StepKind.the-variants.{Clean}
 use Rattle.moves.specs.Steps.{modeOf, linksOf, Sized, leftIn, kindOf, kindIn, kindAt, hasStep}
 use Rattle.moves.specs.Runs.{Alike}
-use Rattle.moves.proofs.Moves.{step-move, move-step}
-
--- a kind of a prefix is no cleaning
-abbrev Cleans : StepKind → Type 0
-Cleans (Act a) = ⊥
-Cleans (Set l v) = ⊥
-Cleans Open = ⊥
-Cleans Clean = Unit {0}
-Cleans (Refused n p) = ⊥
-
-not-clean : (π : Prefix) → kindOf π ≡ Clean → ⊥
-unfolding kindOf
-not-clean (act a) e = subst Cleans (sym e) tt
-not-clean (out l b) e = subst Cleans (sym e) tt
-not-clean (join c) e = subst Cleans (sym e) tt
+use Rattle.moves.proofs.Moves.{not-clean, step-move, move-step}
 
 module _ (t : Table) (w : WellFormed t) where
   abbrev eval : ℕ → Links → Value

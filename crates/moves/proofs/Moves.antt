@@ -6,7 +6,7 @@ use Prim.Native.Nat.{ℕ, _<_}
 use lib.Dec.{ltb}
 use borrow.Author.Tests.{ltb-true}
 use Rattle.laws.proofs.Tests.{and-l, and-r}
-use Rattle.calculus.specs.Process.{Process, Prefix}
+use Rattle.calculus.specs.Process.{Process, Prefix, act, out, join}
 use Rattle.calculus.specs.Status.{Value, Links}
 use Rattle.calculus.specs.Plain.{Label}
 use Rattle.calculus.specs.Places.{Place, row, here, Turn, takes, drops, after, put-on, effect, Mode, falsifies, named, Ready, Move, move, label, left, links}
@@ -24,11 +24,27 @@ use Rattle.steps.proofs.InFront.{waits-is, place-front}
 use Rattle.sheet.specs.Table.{Table, evalIn}
 use Rattle.sheet.specs.Accepted.{WellFormed}
 use Rattle.state.specs.declared.State.{State}
-use Rattle.moves.specs.Steps.{modeOf, marksOf, linksOf, Sized, nodes, leftIn, turnBy, turnAt, kindIn, kindBy, kindTurned, kindAt, isSome, hasStep, steppedBy, steppedOf, Listed}
+use Rattle.state.specs.declared.StepKind.{StepKind}
+use Rattle.state.specs.declared.StepKind.the-variants.{Act, Set, Open, Clean, Refused}
+use Rattle.moves.specs.Steps.{modeOf, marksOf, linksOf, Sized, nodes, leftIn, turnBy, turnAt, kindOf, kindIn, kindBy, kindTurned, kindAt, isSome, hasStep, steppedBy, steppedOf, Listed}
 use Rattle.moves.proofs.StateAfter.{Is, At, taken-at, dropped-at}
 
 no-turn : {u : Turn} → none ≡ some u → ⊥
 no-turn e = true≢false (sym (ap isSome e))
+
+-- a kind of a prefix is no cleaning
+abbrev Cleans : StepKind → Type 0
+Cleans (Act a) = ⊥
+Cleans (Set l v) = ⊥
+Cleans Open = ⊥
+Cleans Clean = Unit {0}
+Cleans (Refused n p) = ⊥
+
+pub not-clean : (π : Prefix) → kindOf π ≡ Clean → ⊥
+unfolding kindOf
+not-clean (act a) e = subst Cleans (sym e) tt
+not-clean (out l b) e = subst Cleans (sym e) tt
+not-clean (join c) e = subst Cleans (sym e) tt
 
 module _ (t : Table) (s : State) (r : ℕ) where
   abbrev turn : Prefix → Option Turn
@@ -72,6 +88,11 @@ module _ (t : Table) (s : State) (r : ℕ) where
   unfolding kindAt kindTurned kindBy kindIn
   turn-kind takes π c e p = rw (e, p) refl
   turn-kind drops π c e p = rw e refl
+
+  -- a step that is taken is no cleaning
+  pub takes-kind : turnAt t s r ≡ some takes → kindAt t s r ≡ Clean → ⊥
+  unfolding kindIn
+  takes-kind e q = let (_, π, c, p, _) = turn-fronts takes e in not-clean π (sym (turn-kind takes π c e p) ∙ q)
 
   pub front-parts : (π : Prefix) (c : ℕ) → nodes t r ≡ PREFIX π c → inFront (nodes t) (marksOf s) (t .n) r ≡ true → (r < t .n) × (reached (nodes t) (marksOf s) r ≡ true) × (stand (marksOf s r) ≡ waits)
   unfolding inFront waiting
