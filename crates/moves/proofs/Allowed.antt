@@ -20,7 +20,7 @@ use Rattle.sheet.specs.Table.{Table, evalIn}
 use Rattle.sheet.specs.Accepted.{WellFormed, SingleSource}
 use Rattle.state.specs.declared.State.{State}
 use Rattle.moves.specs.Steps.{modeOf, marksOf, linksOf, Sized, nodes, leftIn, kindIn, kindAt, hasStep, listedOf, steppedOf, Listed}
-use Rattle.moves.proofs.Moves.{has-turn, turn-fronts, front-parts, step-move, move-step}
+use Rattle.moves.proofs.Moves.{has-turn, turn-parts, step-move, move-step}
 
 -- one source in what is left, in any state
 pub left-single : (t : Table) → WellFormed t → SingleSource t → (s : State) → Single (leftIn t s)
@@ -33,8 +33,7 @@ listed-rows t s r = (
   listed-holds (hasStep t s) 0 (t .n) r,
   λ e.
       let (u, q) = has-turn t s r e in
-      let (f, π, c, p, _) = turn-fronts t s r u q in
-      let (h, _, _) = front-parts t s r π c p f in
+      let (h, _, _) = turn-parts t s r u q in
       listed-has (hasStep t s) 0 (t .n) r (omega arith) (omega arith) e,
 )
 

@@ -94,12 +94,16 @@ module _ (t : Table) (s : State) (r : ℕ) where
   unfolding kindIn
   takes-kind e q = let (_, π, c, p, _) = turn-fronts takes e in not-clean π (sym (turn-kind takes π c e p) ∙ q)
 
-  pub front-parts : (π : Prefix) (c : ℕ) → nodes t r ≡ PREFIX π c → inFront (nodes t) (marksOf s) (t .n) r ≡ true → (r < t .n) × (reached (nodes t) (marksOf s) r ≡ true) × (stand (marksOf s r) ≡ waits)
+  -- ... a row of the sheet that one reaches, and that waits
+  front-parts : (π : Prefix) (c : ℕ) → nodes t r ≡ PREFIX π c → inFront (nodes t) (marksOf s) (t .n) r ≡ true → (r < t .n) × (reached (nodes t) (marksOf s) r ≡ true) × (stand (marksOf s r) ≡ waits)
   unfolding inFront waiting
   front-parts π c p f =
       let a = and-l (ltb r (t .n) && reached (nodes t) (marksOf s) r) _ f in
       let b : waitsBy (stand (marksOf s r)) ≡ true = rw p at (and-r (ltb r (t .n) && reached (nodes t) (marksOf s) r) _ f) in
       (ltb-true r (t .n) (and-l _ (reached (nodes t) (marksOf s) r) a), and-r (ltb r (t .n)) _ a, waits-is (stand (marksOf s r)) b)
+
+  pub turn-parts : (u : Turn) → turnAt t s r ≡ some u → (r < t .n) × (reached (nodes t) (marksOf s) r ≡ true) × (stand (marksOf s r) ≡ waits)
+  turn-parts u e = let (f, π, c, p, _) = turn-fronts u e in front-parts π c p f
 
   module _ (w : WellFormed t) (size : Sized s) where
     -- the step of a turn leaves what the calculus says
