@@ -6,6 +6,7 @@ pub mod Allowed
 pub mod Frame
 pub mod Decided
 pub mod Held
+pub mod Below
 pub mod Clear
 pub mod Small
 pub mod Fits
