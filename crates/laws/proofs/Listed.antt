@@ -103,6 +103,16 @@ listed-has p i (suc c) k h g e =
     (λ (t : p i ≡ false). rw t (listed-has p (suc i) c k (omega arith) (omega arith) e))
     (cases (p i)))
 
+-- ... and what is listed meets it
+pub listed-holds : (p : ℕ → Bool) (i c k : ℕ) → List·Memᴰ k (listed p i c) → p k ≡ true
+unfolding listed
+listed-holds p i zero k m = absurd (List·Memᴰ·not-nil m)
+listed-holds p i (suc c) k m =
+    ⊎-elim
+    (λ (t : p i ≡ true). ⊎-elim (λ (q : k ≡ i). ap p q ∙ t) (listed-holds p (suc i) c k) (List·Memᴰ·cases-cons (rw t at m)))
+    (λ (t : p i ≡ false). listed-holds p (suc i) c k (rw t at m))
+    (cases (p i))
+
 -- two tests that agree list the same
 pub listed-same : (p q : ℕ → Bool) (i c : ℕ) → ((j : ℕ) → i ≤ j → j < i + c → p j ≡ q j) → listed p i c ≡ listed q i c
 unfolding listed

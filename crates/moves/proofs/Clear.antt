@@ -2,12 +2,13 @@
 use mathlib.Core.Path.{_≡_, refl, sym, ap, _∙_}
 use mathlib.Core.Bool.{Bool, true, false, _&&_, not, true≢false}
 use mathlib.Core.List.{List}
-use mathlib.Core.Logic.{⊎-elim}
+use mathlib.Core.Logic.{⊎-elim, _↔_}
 use Prim.Native.Nat.{ℕ, _<_}
 use native.Mathlib.Omega.{arith}
 use lib.ListN.{getD}
 use borrow.Author.Tests.{eqb-true, eq-eqb}
 use Rattle.laws.specs.Tests.{or}
+use Rattle.laws.specs.Checks.{Holds}
 use Rattle.laws.proofs.Tests.{self, or-true, or-l, or-r, implied, implies}
 use Rattle.calculus.specs.Process.{Process, Prefix, act, out, join, Branching}
 use Rattle.calculus.specs.Places.{own, sets}
@@ -20,7 +21,7 @@ use Rattle.steps.proofs.Remainder.{remainderBy, remainder-at}
 use Rattle.steps.proofs.InFront.{waits-is}
 use Rattle.sheet.specs.Table.{rowAt}
 use Rattle.moves.specs.Steps.{remainderIn}
-use Rattle.moves.specs.Fits.{keepsBy, keeps, live, clearPrefix, clearRow, clearOk}
+use Rattle.moves.specs.Fits.{keepsBy, keeps, live, clearPrefix, clearRow, clearOk, clearFit}
 
 module _ (ts : List ℕ) (n : ℕ) (kids : (i : ℕ) → i < n → Kids i n (rowAt ts i)) (once : Once (rowAt ts) n) (μ : Marks) where
   abbrev R : ℕ → Process
@@ -134,3 +135,7 @@ module _ (ts : List ℕ) (n : ℕ) (kids : (i : ℕ) → i < n → Kids i n (row
 
       pub rows-clear : 0 < n → sets (R 0) l ≡ true → getD links l 0 ≡ 0
       rows-clear h s = rows-goal 0 h live-root s
+
+  -- (d) IN THE DOCUMENT'S WORDS: "each link set by the remainder is unset"
+  pub clear-said : 0 < n → (links : List ℕ) → Holds (clearFit ts n μ links) ↔ ((l : ℕ) → sets (R 0) l ≡ true → getD links l 0 ≡ 0)
+  clear-said h links = (λ f l. rows-clear links (λ i g. f i (omega arith) g) l h, λ f i _ g. clear-rows links f i g)

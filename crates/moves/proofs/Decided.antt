@@ -24,7 +24,7 @@ use Rattle.state.specs.State.{passOf, dropOf, sideMark}
 use Rattle.moves.specs.Steps.{marksOf, Sized, nodes, remainderIn, turnAt, falsified, isWaitingPick, decidedOf, ownOf, takenOf, droppedOf, steppedBy, steppedOf}
 use Rattle.moves.proofs.Falsify.{falsify-marks}
 use Rattle.moves.proofs.Climb.{decided-by, climb-induction}
-use Rattle.moves.proofs.Moves.{turn-fronts, front-parts}
+use Rattle.moves.proofs.Moves.{turn-parts}
 use Rattle.moves.proofs.Frame.{own-marks}
 
 module _ (t : Table) (w : WellFormed t) (s : State) (size : Sized s) where
@@ -48,12 +48,10 @@ module _ (t : Table) (w : WellFormed t) (s : State) (size : Sized s) where
   pub row-marked : (r : ℕ) (u : Turn) → turnAt t s r ≡ some u → marksOf (steppedOf t s r) r ≡ doneMark u
   unfolding steppedOf steppedBy takenOf droppedOf falsified
   row-marked r takes e =
-      let (f, π, d, p, _) = turn-fronts t s r takes e in
-      let (h, g, _) = front-parts t s r π d p f in
+      let (h, g, _) = turn-parts t s r takes e in
       rw e (climb-induction (t .terms) (t .n) s (λ j z. (j ≤ r) × (marksOf z r ≡ 1)) (λ j z l _ _ c. (omega (arith, c .0), decided-other j z r (omega (arith, c .0)) ∙ c .1)) r (ownOf (nodes t r) (passOf s r)) g (omega arith, ap (λ (xs : List ℕ). getD xs r 0) (own-marks (nodes t r) (passOf s r)) ∙ own-mark r 1 h) .1)
   row-marked r drops e =
-      let (f, π, d, p, _) = turn-fronts t s r drops e in
-      let (h, _, _) = front-parts t s r π d p f in
+      let (h, _, _) = turn-parts t s r drops e in
       rw e (ap (λ (xs : List ℕ). getD xs r 0) (falsify-marks (sets (remainderIn (t .terms) (t .n) (marksOf s) (firstOf (nodes t r)))) 0 64 (dropOf s r)) ∙ own-mark r 4 h)
 
   -- row k is a waiting PICK with r below its child c, on the side
@@ -92,8 +90,7 @@ module _ (t : Table) (w : WellFormed t) (s : State) (size : Sized s) where
     pub pick-decided : (r : ℕ) → T c r ≡ true → turnAt t s r ≡ some takes → marksOf (steppedOf t s r) k ≡ sideMark side
     unfolding steppedOf steppedBy takenOf
     pick-decided r b e =
-        let (f, π, d, p, _) = turn-fronts t s r takes e in
-        let (_, g, _) = front-parts t s r π d p f in
+        let (_, g, _) = turn-parts t s r takes e in
         let (_, o) = climb-induction (t .terms) (t .n) s On (λ j z l _ _ c. on-up j z l c) r (ownOf (nodes t r) (passOf s r)) g (ap length (own-marks (nodes t r) (passOf s r)) ∙ (length-set (s .marks) r 1 ∙ size .all-marks), inl b) in
         let (kc, cn) = child-above k (t .n) c (nodes t k) side (w .tree .kids k h) child in
         rw e (⊎-elim (λ z. absurd (let y : ⊥ = omega (arith, rows-above (nodes t) (t .n) (w .tree .kids) c cn 0 z .0) in y)) (λ d. d .1) o)

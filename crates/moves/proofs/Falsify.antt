@@ -9,7 +9,7 @@ use native.Mathlib.Decide.{ℕ-discrete, decLt}
 use lib.Dec.{eqb, ltb}
 use lib.ListN.{getD, set, length, length-set}
 use lib.Seq.{getD-set-same, getD-set-other, set-out}
-use borrow.Author.Tests.{eq-eqb, ne-eqb, lt-ltb, le-ltb}
+use borrow.Author.Tests.{eq-eqb, ne-eqb, lt-ltb}
 use Rattle.laws.proofs.Tests.{cond-all}
 use Rattle.calculus.specs.Status.{Value, Unset, False, truth}
 use Rattle.calculus.proofs.Order.{true≢unset, false≢unset}
@@ -44,11 +44,7 @@ sized-mark s r a z = record { all-marks = length-set (s .marks) r a ∙ z .all-m
 pub sized-link : (s : State) (l v : ℕ) → Sized s → Sized (setOf s l v)
 sized-link s l v z = record { all-marks = z .all-marks; all-links = length-set (s .links) l v ∙ z .all-links }
 
--- a link from 64 on is unset
-pub links-out : (xs : List ℕ) (l : ℕ) → 64 ≤ l → linksIn xs l ≡ Unset
-unfolding linksIn
-links-out xs l h = rw (le-ltb l 64 h) refl
-
+-- a link below 64, as the calculus reads it; the byte 0 is unset, and no other is
 links-in : (xs : List ℕ) (l : ℕ) → l < 64 → linksIn xs l ≡ undigit (getD xs l 0)
 unfolding linksIn
 links-in xs l h = rw (lt-ltb l 64 h) refl

@@ -29,7 +29,7 @@ use Rattle.moves.specs.Steps.{modeOf, marksOf, linksOf, Sized, nodes, le
 use Rattle.moves.specs.Fits.{suitsPrefix, suitsBranch, suits, markOk, linkOk, held, waitOk, live, clearPrefix, clearRow, clearOk, Fits}
 use Rattle.moves.proofs.Falsify.{unset-zero, zero-unset}
 use Rattle.moves.proofs.StateAfter.{Is, sets-below}
-use Rattle.moves.proofs.Moves.{has-turn, turn-fronts, front-parts, stepped-at, left-at, links-at}
+use Rattle.moves.proofs.Moves.{has-turn, turn-fronts, turn-parts, stepped-at, left-at, links-at}
 use Rattle.moves.proofs.Allowed.{left-single}
 use Rattle.moves.proofs.Frame.{Change, Frames, step-frames}
 use Rattle.moves.proofs.Held.{reached-free, held-less}
@@ -60,6 +60,9 @@ unset-clears (PREFIX (act a) c) m links z = implied (waitsBy (stand m)) (λ e. r
 unset-clears (PREFIX (out l b) c) m links z = implied (waitsBy (stand m)) (λ e. eq-eqb _ 0 (z l))
 unset-clears (PREFIX (join q) c) m links z = implied (waitsBy (stand m)) (λ e. refl)
 unset-clears (BRANCH κ p q) m links z = refl
+
+pub fresh-sized : (mode : ℕ) → Sized (freshOf mode)
+fresh-sized mode = record { all-marks = refl; all-links = refl }
 
 pub fresh-fits : (t : Table) (mode : ℕ) → Fits t (freshOf mode)
 unfolding markOk linkOk waitOk clearOk
@@ -131,8 +134,8 @@ module _ (t : Table) (w : WellFormed t) (s : State) (size : Sized s) (r : ℕ) (
   new-suits : (i x : ℕ) → Change t s r u i x → MarkOk i x
   unfolding suits
   new-suits i x c =
-      let (f, π, c′, p, o) = turn-fronts t s r u e in
-      let (h, _, _) = front-parts t s r π c′ p f in
+      let (_, π, _, p, o) = turn-fronts t s r u e in
+      let (h, _, _) = turn-parts t s r u e in
       let (a, b) = turn-ready (evalIn t) m π (linksOf s) u o in
       ⊎-elim
       (λ d. subst₂ MarkOk (sym (d .0)) (sym (d .1)) (mark-in r (doneMark u) h (rw p (done-suits (evalIn t) (linksOf s) m u π a b))))
@@ -155,8 +158,7 @@ module _ (t : Table) (w : WellFormed t) (s : State) (size : Sized s) (r : ℕ) (
 
   new-free : (k x : ℕ) → Change t s r u k x → held (t .terms) (marksOf s) k ≡ false
   new-free k x c =
-      let (f, π, c′, p, o) = turn-fronts t s r u e in
-      let (_, g, _) = front-parts t s r π c′ p f in
+      let (_, g, _) = turn-parts t s r u e in
       reached-free (t .terms) (marksOf s) k (⊎-elim (λ d. subst (λ (k : ℕ). reached (nodes t) (marksOf s) k ≡ true) (sym (d .0)) g) (λ (_, side, j, d). j .comes-to) c)
 
   module _ (f : Fits t s) where

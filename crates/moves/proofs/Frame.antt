@@ -22,7 +22,7 @@ use Rattle.state.specs.State.{passOf, dropOf, sideMark}
 use Rattle.moves.specs.Steps.{marksOf, nodes, remainderIn, turnAt, falsified, isWaitingPick, decidedOf, ownLink, ownOf, takenOf, droppedOf, steppedBy, steppedOf}
 use Rattle.moves.proofs.Falsify.{set-cases, falsify-marks}
 use Rattle.moves.proofs.Climb.{decided-by, climb-induction}
-use Rattle.moves.proofs.Moves.{turn-fronts, front-parts}
+use Rattle.moves.proofs.Moves.{turn-parts}
 
 -- row k is a waiting PICK that one reaches, and r stands below it on the side
 pub record PickAbove (t : Table) (s : State) (r k : ℕ) (side : Bool) : Type 0 where
@@ -98,6 +98,5 @@ module _ (t : Table) (w : WellFormed t) (s : State) (r : ℕ) where
 
   pub step-frames : (u : Turn) → turnAt t s r ≡ some u → Frames t s r u (steppedOf t s r)
   step-frames u e =
-      let (f, π, c, p, o) = turn-fronts t s r u e in
-      let (h, g, q) = front-parts t s r π c p f in
+      let (h, g, q) = turn-parts t s r u e in
       turn-frames h g u e

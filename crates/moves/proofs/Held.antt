@@ -40,7 +40,7 @@ module _ (ts : List ℕ) where
     unfolding held
     held-at j h = inherited-at (rowAt ts) false false (λ p s b. or b (waitingStep (rowAt ts p) (μ p))) j h
 
-    held-root : held ts μ 0 ≡ false
+    pub held-root : held ts μ 0 ≡ false
     unfolding held
     held-root = inherited-root (rowAt ts) false false (λ p s b. or b (waitingStep (rowAt ts p) (μ p)))
 

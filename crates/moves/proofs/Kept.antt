@@ -2,6 +2,7 @@
 use mathlib.Core.Path.{_≡_, sym, ap, _∙_, subst}
 use mathlib.Core.Bool.{Bool, true}
 use mathlib.Core.Logic.{_⊎_, inl, inr, ⊎-elim}
+use mathlib.Core.Option.{some}
 use Prim.Native.Nat.{ℕ, _≤_}
 use lib.ListN.{length, length-map}
 use Rattle.calculus.specs.Places.{Grows}
@@ -11,10 +12,12 @@ use Rattle.steps.proofs.Length.{run-bound}
 use Rattle.sheet.specs.Table.{Table, evalIn}
 use Rattle.sheet.specs.Accepted.{WellFormed, SingleSource}
 use Rattle.state.specs.declared.State.{State}
-use Rattle.moves.specs.Steps.{marksOf, linksOf, Sized, nodes, hasStep, steppedOf}
+use Rattle.state.specs.declared.StepKind.the-variants.{Clean}
+use Rattle.state.specs.State.{sideMark}
+use Rattle.moves.specs.Steps.{marksOf, linksOf, Sized, nodes, kindAt, hasStep, steppedOf}
 use Rattle.moves.specs.Fits.{Fits}
 use Rattle.moves.specs.Runs.{Run, over, take, taken, last}
-use Rattle.moves.proofs.Moves.{has-turn, step-kept}
+use Rattle.moves.proofs.Moves.{has-turn, takes-kind, step-kept}
 use Rattle.moves.proofs.Frame.{PickAbove, step-frames}
 use Rattle.moves.proofs.Runs.{shown, to-moves, grows-run}
 use Rattle.moves.proofs.Fits.{fits-valid, fits-step}
@@ -36,9 +39,12 @@ module _ (t : Table) (w : WellFormed t) where
     pub links-never-alter : {s : State} → Sized s → Fits t s → (R : Run t s) → Grows (linksOf s) (linksOf (last R))
     links-never-alter {s} h f R = grows-run t w h (fits-valid t w source s f) R
 
-    -- "Nothing else changes": the mode stays; a mark that changes is the row's, or that of a waiting PICK above it; a link that changes was unset
-    pub nothing-else : {s : State} → Sized s → Fits t s → (r : ℕ) → hasStep t s r ≡ true → (steppedOf t s r .mode ≡ s .mode) × ((k : ℕ) → (marksOf (steppedOf t s r) k ≡ marksOf s k) ⊎ ((k ≡ r) ⊎ ((side : Bool) × PickAbove t s r k side))) × Grows (linksOf s) (linksOf (steppedOf t s r))
+    -- "Nothing else changes": the mode stays; a mark that changes is the row's or that of a waiting PICK above it, decided towards it, and a clean step decides none; a link that changes was unset
+    pub nothing-else : {s : State} → Sized s → Fits t s → (r : ℕ) → hasStep t s r ≡ true → (steppedOf t s r .mode ≡ s .mode) × ((k : ℕ) → (marksOf (steppedOf t s r) k ≡ marksOf s k) ⊎ ((k ≡ r) ⊎ ((kindAt t s r ≡ Clean → ⊥) × (side : Bool) × PickAbove t s r k side × (marksOf (steppedOf t s r) k ≡ sideMark side)))) × Grows (linksOf s) (linksOf (steppedOf t s r))
     unfolding last
     nothing-else {s} h f r e =
-        let (u, q) = has-turn t s r e in
-        (step-kept t w s h r e .1, λ k. ⊎-elim inl (λ c. inr (⊎-elim (λ d. inl (d .0)) (λ (_, side, p, _). inr (side, p)) c)) (step-frames t w s r u q k), links-never-alter h f (take r e over))
+        let (u, q) = has-turn t s r e in (
+          step-kept t w s h r e .1,
+          λ k. ⊎-elim inl (λ c. inr (⊎-elim (λ d. inl (d .0)) (λ (v, side, p, x). inr (takes-kind t s r (q ∙ ap some v), side, p, x)) c)) (step-frames t w s r u q k),
+          links-never-alter h f (take r e over),
+        )

@@ -3,13 +3,15 @@ pub mod Climb
 pub mod StateAfter
 pub mod Moves
 pub mod Allowed
-pub mod Runs
-pub mod Demand
 pub mod Frame
 pub mod Decided
 pub mod Held
+pub mod Below
 pub mod Clear
 pub mod Small
 pub mod Fits
+pub mod Runs
 pub mod Kept
+pub mod Alike
+pub mod Demand
 pub mod SheetX

@@ -6,7 +6,7 @@ use Prim.Native.Nat.{ℕ, _<_}
 use lib.Dec.{ltb}
 use borrow.Author.Tests.{ltb-true}
 use Rattle.laws.proofs.Tests.{and-l, and-r}
-use Rattle.calculus.specs.Process.{Process, Prefix}
+use Rattle.calculus.specs.Process.{Process, Prefix, act, out, join}
 use Rattle.calculus.specs.Status.{Value, Links}
 use Rattle.calculus.specs.Plain.{Label}
 use Rattle.calculus.specs.Places.{Place, row, here, Turn, takes, drops, after, put-on, effect, Mode, falsifies, named, Ready, Move, move, label, left, links}
@@ -24,11 +24,27 @@ use Rattle.steps.proofs.InFront.{waits-is, place-front}
 use Rattle.sheet.specs.Table.{Table, evalIn}
 use Rattle.sheet.specs.Accepted.{WellFormed}
 use Rattle.state.specs.declared.State.{State}
-use Rattle.moves.specs.Steps.{modeOf, marksOf, linksOf, Sized, nodes, leftIn, turnBy, turnAt, kindIn, kindBy, kindTurned, kindAt, isSome, hasStep, steppedBy, steppedOf, Listed}
+use Rattle.state.specs.declared.StepKind.{StepKind}
+use Rattle.state.specs.declared.StepKind.the-variants.{Act, Set, Open, Clean, Refused}
+use Rattle.moves.specs.Steps.{modeOf, marksOf, linksOf, Sized, nodes, leftIn, turnBy, turnAt, kindOf, kindIn, kindBy, kindTurned, kindAt, isSome, hasStep, steppedBy, steppedOf, Listed}
 use Rattle.moves.proofs.StateAfter.{Is, At, taken-at, dropped-at}
 
 no-turn : {u : Turn} → none ≡ some u → ⊥
 no-turn e = true≢false (sym (ap isSome e))
+
+-- a kind of a prefix is no cleaning
+abbrev Cleans : StepKind → Type 0
+Cleans (Act a) = ⊥
+Cleans (Set l v) = ⊥
+Cleans Open = ⊥
+Cleans Clean = Unit {0}
+Cleans (Refused n p) = ⊥
+
+pub not-clean : (π : Prefix) → kindOf π ≡ Clean → ⊥
+unfolding kindOf
+not-clean (act a) e = subst Cleans (sym e) tt
+not-clean (out l b) e = subst Cleans (sym e) tt
+not-clean (join c) e = subst Cleans (sym e) tt
 
 module _ (t : Table) (s : State) (r : ℕ) where
   abbrev turn : Prefix → Option Turn
@@ -73,12 +89,21 @@ module _ (t : Table) (s : State) (r : ℕ) where
   turn-kind takes π c e p = rw (e, p) refl
   turn-kind drops π c e p = rw e refl
 
-  pub front-parts : (π : Prefix) (c : ℕ) → nodes t r ≡ PREFIX π c → inFront (nodes t) (marksOf s) (t .n) r ≡ true → (r < t .n) × (reached (nodes t) (marksOf s) r ≡ true) × (stand (marksOf s r) ≡ waits)
+  -- a step that is taken is no cleaning
+  pub takes-kind : turnAt t s r ≡ some takes → kindAt t s r ≡ Clean → ⊥
+  unfolding kindIn
+  takes-kind e q = let (_, π, c, p, _) = turn-fronts takes e in not-clean π (sym (turn-kind takes π c e p) ∙ q)
+
+  -- ... a row of the sheet that one reaches, and that waits
+  front-parts : (π : Prefix) (c : ℕ) → nodes t r ≡ PREFIX π c → inFront (nodes t) (marksOf s) (t .n) r ≡ true → (r < t .n) × (reached (nodes t) (marksOf s) r ≡ true) × (stand (marksOf s r) ≡ waits)
   unfolding inFront waiting
   front-parts π c p f =
       let a = and-l (ltb r (t .n) && reached (nodes t) (marksOf s) r) _ f in
       let b : waitsBy (stand (marksOf s r)) ≡ true = rw p at (and-r (ltb r (t .n) && reached (nodes t) (marksOf s) r) _ f) in
       (ltb-true r (t .n) (and-l _ (reached (nodes t) (marksOf s) r) a), and-r (ltb r (t .n)) _ a, waits-is (stand (marksOf s r)) b)
+
+  pub turn-parts : (u : Turn) → turnAt t s r ≡ some u → (r < t .n) × (reached (nodes t) (marksOf s) r ≡ true) × (stand (marksOf s r) ≡ waits)
+  turn-parts u e = let (f, π, c, p, _) = turn-fronts u e in front-parts π c p f
 
   module _ (w : WellFormed t) (size : Sized s) where
     -- the step of a turn leaves what the calculus says

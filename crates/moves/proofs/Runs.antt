@@ -10,7 +10,7 @@ use Rattle.calculus.specs.Rules.{Rule}
 use Rattle.calculus.specs.Runs.{Run as Moves, done, more, trail, last as last-process, last-links}
 use Rattle.calculus.specs.Rows.{row-of}
 use Rattle.calculus.proofs.Rules.{to-rules}
-use Rattle.calculus.proofs.Runs.{Valid·run, links-stay}
+use Rattle.calculus.proofs.Runs.{links-stay}
 use Rattle.sheet.specs.Table.{Table, evalIn}
 use Rattle.sheet.specs.Accepted.{WellFormed, SingleSource}
 use Rattle.state.specs.declared.State.{State}
@@ -49,12 +49,9 @@ module _ (t : Table) (w : WellFormed t) where
       let (k′, o′) = run-kept k R in
       (k′, o′ ∙ o)
 
-  module _ {s : State} (size : Sized s) (valid : Valid (leftIn t s) (linksOf s)) (R : Run t s) where
-    pub valid-run : Valid (leftIn t (last R)) (linksOf (last R))
-    valid-run = let (S, a, b, c) = to-moves size R in subst₂ Valid b c (Valid·run eval S valid)
-
-    pub grows-run : Grows (linksOf s) (linksOf (last R))
-    grows-run = let (S, a, b, c) = to-moves size R in subst (Grows (linksOf s)) c (links-stay eval S valid)
+  -- a link once set stays, from any valid state
+  pub grows-run : {s : State} → Sized s → Valid (leftIn t s) (linksOf s) → (R : Run t s) → Grows (linksOf s) (linksOf (last R))
+  grows-run {s} h v R = let (S, a, b, c) = to-moves h R in subst (Grows (linksOf s)) c (links-stay eval S v)
 
   module _ (source : SingleSource t) where
     pub from-moves : {m : Mode} {P : Process} {v : Links} (S : Moves eval m P v) (s : State) → Sized s → modeOf (s .mode) ≡ m → leftIn t s ≡ P → linksOf s ≡ v → (R : Run t s) × (taken R ≡ map shown (trail eval S)) × (leftIn t (last R) ≡ last-process eval S) × (linksOf (last R) ≡ last-links eval S)

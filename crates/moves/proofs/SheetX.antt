@@ -7,15 +7,18 @@ use Rattle.laws.specs.Tests.{or}
 use Rattle.laws.specs.Down.{seen, down-by, down}
 use Rattle.laws.specs.Up.{below, up-by, up}
 use Rattle.laws.specs.Lowest.{lowest}
+use Rattle.laws.specs.Sums.{sum, count}
+use Rattle.laws.specs.Checks.{placeOf, checked}
 use Rattle.laws.specs.Listed.{listed}
 use Rattle.calculus.specs.Places.{own, sets, falsifies, cleans}
 use Rattle.calculus.specs.Steps.{joinTurn, turnOf}
 use Rattle.conditions.specs.Operators.{table}
-use Rattle.conditions.specs.Conditions.{conditionBy, condition, lazy, value}
-use Rattle.conditions.specs.Numbers.{digit, undigit}
-use Rattle.steps.specs.Rows.{termBy, term, firstOf, secondOf}
+use Rattle.conditions.specs.Conditions.{conditionBy, condition, reached as reachedFrom, lazy, value}
+use Rattle.conditions.specs.Numbers.{digit, undigit, linksOf}
+use Rattle.steps.specs.Rows.{termBy, term, firstOf, secondOf, isSource}
 use Rattle.steps.specs.Marks.{stand, open-branches, remainder}
 use Rattle.steps.specs.InFront.{names, parentOf, rightOf, waitsBy, undecided, waiting, passedBy, opens, leads, inheritedBy, inherited, reached, inFront}
+use Rattle.sheet.specs.Rules.{sized, settled, conditionRule, conditionOk, childOk, termRule, termOk, same, namings, timesNamed, sources, narrowPrefix, narrowRow, refusalOf}
 use Rattle.sheet.specs.Table.{Table, rowBy, rowAt, operatorOf, conditionRowBy, conditionRowAt, lazyOf, evaluationOf}
 use Rattle.evaluate.specs.Values.{linksIn}
 use Rattle.state.specs.declared.State.{State}
@@ -33,6 +36,11 @@ X = record {
   terms = 5 ∷ (1 ∷ (6 ∷ (0 ∷ (4 ∷ (2 ∷ (4 ∷ (0 ∷ (1 ∷ (10 ∷ (3 ∷ (0 ∷ (0 ∷ (0 ∷ (0 ∷ (0 ∷ (2 ∷ (0 ∷ (1 ∷ (5 ∷ (0 ∷ (0 ∷ (0 ∷ (0 ∷ (3 ∷ (2 ∷ (7 ∷ (0 ∷ (1 ∷ (12 ∷ (8 ∷ (0 ∷ (0 ∷ (0 ∷ (0 ∷ (0 ∷ [])))))))))))))))))))))))))))))))))));
   conditions = 0 ∷ (0 ∷ (0 ∷ (0 ∷ (2 ∷ (0 ∷ (0 ∷ (0 ∷ (5 ∷ (0 ∷ (1 ∷ (0 ∷ [])))))))))));
 }
+
+-- it is accepted, so what is proved of accepted tables holds of it
+pub X-accepted : refusalOf X .number ≡ 0
+unfolding refusalOf checked placeOf lowest sized settled conditionRule conditionOk childOk termRule termOk same namings timesNamed sources narrowPrefix narrowRow sum count isSource own firstOf secondOf rowBy rowAt operatorOf conditionRowBy conditionRowAt linksOf listed reachedFrom conditionBy condition up up-by below or
+X-accepted = refl
 
 -- what a caller sees after some rows: the rows listed, their kinds, and link 0
 pub record Seen : Type 0 where

@@ -18,7 +18,7 @@ use Rattle.state.specs.State.{passOf, dropOf, decideOf, setOf}
 use Rattle.moves.specs.Steps.{modeOf, marksOf, nodes, remainderIn, turnAt, falsifyFrom, falsified, isWaitingPick, otherOf, decidedOf, ownLink, ownOf, takenOf, droppedOf, steppedBy, steppedOf}
 use Rattle.moves.proofs.Falsify.{set-cases}
 use Rattle.moves.proofs.Climb.{climb-induction}
-use Rattle.moves.proofs.Moves.{turn-fronts, front-parts}
+use Rattle.moves.proofs.Moves.{turn-parts}
 
 abbrev pub Small : State → Type 0
 Small z = (l : ℕ) → l < 64 → getD (z .links) l 0 ≤ 2
@@ -60,6 +60,5 @@ module _ (t : Table) (s : State) where
 
     pub step-small : (u : Turn) → turnAt t s r ≡ some u → Small (steppedOf t s r)
     step-small u e =
-        let (f, π, c, p, o) = turn-fronts t s r u e in
-        let (_, g, _) = front-parts t s r π c p f in
+        let (_, g, _) = turn-parts t s r u e in
         turn-small g u e
