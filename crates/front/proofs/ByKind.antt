@@ -4,7 +4,7 @@ use mathlib.Core.Path.{_≡_, refl}
 use mathlib.Core.Bool.{Bool, true, false, cond, _&&_, _||_, not}
 use lib.Dec.{eqb}
 use borrow.Author.Tests.{eqb-true, eq-eqb, ne-eqb}
-use Rattle.laws.specs.Tests.{or}
+use Rattle.laws.proofs.Tests.{or-is}
 use Rattle.calculus.specs.Process.{pick, flow}
 use Rattle.steps.specs.Rows.{Row, NIL, BRANCH}
 use Rattle.steps.specs.Marks.{standBy, stand}
@@ -68,9 +68,8 @@ unfolding nextOf
 next-reached q m N s b e = rw (eq-eqb q 0 e) refl
 
 pub next-held : (q m : ℕ) (N : Row) (s b : Bool) → q ≡ 1 → b || waitingStep N m ≡ nextOf q N m s b
-unfolding nextOf or
-next-held q m N s true e = rw e refl
-next-held q m N s false e = rw e refl
+unfolding nextOf
+next-held q m N s b e = rw (e, or-is b (waitingStep N m)) refl
 
 pub next-live : (q m : ℕ) (N : Row) (s b : Bool) → (q ≡ 0 → ⊥) → (q ≡ 1 → ⊥) → b && keeps N m s ≡ nextOf q N m s b
 unfolding nextOf

@@ -48,7 +48,7 @@ fn leads(ts: &[u8], row: usize, mark: u8, right: bool) -> bool
 }
 
 // A waiting ACT, OUT or JOIN.
-fn waiting_step(ts: &[u8], row: usize, mark: u8) -> bool
+pub fn waiting_step(ts: &[u8], row: usize, mark: u8) -> bool
     requires { ⌜ row * 4 + 4 ≤ length (now ts) ⌝ }
     ensures { λ r. ⌜ r ≡ waitingStep (rowAt (now (ts .entry)) row) mark ⌝ }
 {
@@ -61,7 +61,7 @@ fn waiting_step(ts: &[u8], row: usize, mark: u8) -> bool
 }
 
 // The row's remainder has what is below it.
-fn keeps(ts: &[u8], row: usize, mark: u8, right: bool) -> bool
+pub fn keeps(ts: &[u8], row: usize, mark: u8, right: bool) -> bool
     requires { ⌜ row * 4 + 4 ≤ length (now ts) ⌝ }
     ensures { λ r. ⌜ r ≡ keeps (rowAt (now (ts .entry)) row) mark right ⌝ }
 {
@@ -112,9 +112,8 @@ fn hand(table: &mut [u8; 256], ts: &[u8], row: usize, a: bool, b: bool)
     requires { ⌜ row * 4 + 4 ≤ length (now ts) ⌝ }
     ensures { λ _. ⌜ now (table .exit) ≡ handed (now (table .entry)) (rowAt (now (ts .entry)) row) a b ⌝ }
 {
-    let at = row * 4;
-    let x = rows::first_by(ts[at], ts[at + 1], ts[at + 2], ts[at + 3]);
-    let y = rows::second_by(ts[at], ts[at + 1], ts[at + 2], ts[at + 3]);
+    let x = rows::first(ts, row);
+    let y = rows::second(ts, row);
     mark_child(table, x, a);
     mark_child(table, y, b);
 }

@@ -1,7 +1,7 @@
 -- What tests tell: cases, `or`, `&&`, `cond`, and sets that are apart. Assumes nothing.
 use Prim.Native.Nat.{ℕ}
 use mathlib.Core.Path.{_≡_, refl, sym, _∙_, ap}
-use mathlib.Core.Bool.{Bool, true, false, cond, _&&_, not, true≢false}
+use mathlib.Core.Bool.{Bool, true, false, cond, _&&_, not, true≢false, _||_}
 use mathlib.Core.Logic.{_⊎_, inl, inr}
 use lib.Dec.{eqb}
 use borrow.Author.Tests.{eq-eqb}
@@ -96,3 +96,9 @@ Apart·sym {A} {B} h k e = refuted (A k) (λ p. not-both e (h k p))
 
 pub Apart·less : {A A′ B B′ : Set} → ((k : ℕ) → A k ≡ false → A′ k ≡ false) → ((k : ℕ) → B k ≡ false → B′ k ≡ false) → Apart A B → Apart A′ B′
 Apart·less f g h k e = g k (h k (contra (f k) e))
+
+-- the code's test is `or`
+pub or-is : (b c : Bool) → (b || c) ≡ or b c
+unfolding or
+or-is true c = refl
+or-is false c = refl

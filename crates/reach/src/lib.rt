@@ -8,7 +8,8 @@ ghost use Rattle.laws.specs.Listed.{listed};
 ghost use Rattle.sheet.specs.Table.{conditionRowBy, conditionRowAt};
 ghost use Rattle.reach.specs.Masks.{hasBit, linkBit, maskBy, maskAt};
 
-fn bit(l: u8) -> u64
+// A link as a bit; none from 64 on.
+pub fn bit(l: u8) -> u64
     ensures { λ r. ⌜ r ≡ linkBit l ⌝ }
 {
     if 64 <= l {
