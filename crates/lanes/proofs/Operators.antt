@@ -1,10 +1,10 @@
 -- The word operations are the operators, lane by lane. Each table is one computed test of all values. Assumes nothing.
-use Prim.Native.Nat.{ℕ, _<_, _-_, _^_}
+use Prim.Native.Nat.{ℕ, _<_}
 use mathlib.Core.Path.{_≡_, refl, sym, _∙_, ap₂}
 use mathlib.Core.Bool.{Bool, true, false, cond, _&&_, not, true≢false}
 use lib.Bits.{bitAnd, bitOr}
 use Rattle.laws.specs.Tests.{or}
-use Rattle.calculus.specs.Status.{Value, Unset, False, True, truth}
+use Rattle.calculus.specs.Status.{Value, False, True}
 use Rattle.conditions.specs.Operators.{Operator, AND, OR, EQ, NE, table}
 use Rattle.conditions.specs.Conditions.{Evaluation, Strict, Lazy}
 use Rattle.conditions.specs.ByRows.{strictly, operate}

@@ -29,11 +29,11 @@ module _ (ts : List ℕ) (n : ℕ) (s : State) where
       cond-cases (λ (y : State). C (y .marks)) (isWaitingPick (rowAt ts (above j)) (marksOf s (above j)))
       (λ e. cond-all (λ (y : State). C (y .marks)) (falsifies (modeOf (s .mode))) (subst C (sym (falsify-marks (sets (remainderIn ts n (marksOf s) o)) 0 64 (decideOf z (above j) (rightOf (rowAt ts) j)))) (f e)) (f e)) g
 
-  climbed-up : (j : ℕ) (z : State) → above j < j → climbed ts n s j z ≡ climbed ts n s (above j) (decidedOf ts n s j z)
+  pub climbed-up : (j : ℕ) (z : State) → above j < j → climbed ts n s j z ≡ climbed ts n s (above j) (decidedOf ts n s j z)
   unfolding climbed climbBy
   climbed-up j z h = ap (λ (f : State → State). f z) (up-at idle (climbBy ts n s) j) ∙ rw (lt-ltb (above j) j h, below-in idle (climbed ts n s) j (above j) h) refl
 
-  climbed-top : (z : State) → climbed ts n s 0 z ≡ z
+  pub climbed-top : (z : State) → climbed ts n s 0 z ≡ z
   unfolding climbed climbBy parentOf lowest
   climbed-top z = ap (λ (f : State → State). f z) (up-at idle (climbBy ts n s) 0)
 

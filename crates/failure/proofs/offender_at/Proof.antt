@@ -2,7 +2,6 @@ use mathlib.Core.Path.{_≡_, sym, ap, _∙_}
 use mathlib.Core.Bool.{not, true}
 use Prim.Native.Nat.{_≤_, _-_}
 use borrow.Author.Tests.{not-true, not-false}
-use Rattle.laws.specs.Lowest.{lowest}
 use Rattle.laws.proofs.Lowest.{Searched, searched-none, searched-more, searched-stop, searched-end}
 use Rattle.conditions.specs.Failure.{flips, offender, isTrue}
 use Rattle.sheet.specs.Table.{evalOf}

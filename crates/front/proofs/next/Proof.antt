@@ -1,7 +1,6 @@
 use mathlib.Core.Path.{_∙_, ap}
 use mathlib.Core.Bool.{_&&_, _||_}
 use Rattle.front.proofs.ByKind.{next-reached, next-held, next-live}
-use Rattle.front.specs.Asked.{nextOf}
 use borrow.Author.Needs.{needs}
 use Rattle.front.proofs.next.Statement.{statement}
 use Rattle.front.proofs.next.Tie as tie
