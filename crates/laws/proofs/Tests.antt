@@ -76,3 +76,8 @@ Apart·sym {A} {B} h k e = refuted (A k) (λ p. not-both e (h k p))
 
 pub Apart·less : {A A′ B B′ : Set} → ((k : ℕ) → A k ≡ false → A′ k ≡ false) → ((k : ℕ) → B k ≡ false → B′ k ≡ false) → Apart A B → Apart A′ B′
 Apart·less f g h k e = g k (h k (contra (f k) e))
+
+pub or-none : (a : Bool) → or a false ≡ a
+unfolding or
+or-none true = refl
+or-none false = refl
