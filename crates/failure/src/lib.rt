@@ -77,10 +77,10 @@ fn offender_at(evaluation: u8, cs: &[u8], row: usize, m: usize, links: [u8; 64])
     let mut l = m;
     while 0 < l {
         let k = l - 1;
-        if flips_at(evaluation, cs, row, links, k) {
-            found = k;
+        if !flips_at(evaluation, cs, row, links, k) {
             l = k;
         } else {
+            found = k;
             l = k;
         }
     }

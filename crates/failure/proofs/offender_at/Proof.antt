@@ -48,7 +48,8 @@ loop-less c = omega arith
 -- src/lib.rt:78:5
 loop-again : tie.Need-loop-again Inv-loop μ-loop
 loop-again c = let l = c .before .before .before .loop in
-    (omega arith, (l .inv .1 .0, sought-hit _ _ _ (omega arith) (ap not (sym (c .before .flips-at .ensures) ∙ c .if2 .taken))))
+    let e : l .l - 1 + 1 ≡ l .l = omega arith in
+    (omega arith, (l .inv .1 .0, sought-miss _ _ (l .l - 1) _ (omega arith) (ap not (sym (c .before .flips-at .ensures) ∙ not-true _ (c .if2 .taken))) (rw e (l .inv .1 .1))))
 
 -- src/lib.rt:78:5
 loop-less-2 : tie.Need-loop-less-2 Inv-loop μ-loop
@@ -57,8 +58,7 @@ loop-less-2 c = omega arith
 -- src/lib.rt:78:5
 loop-again-2 : tie.Need-loop-again-2 Inv-loop μ-loop
 loop-again-2 c = let l = c .before .before .before .loop in
-    let e : l .l - 1 + 1 ≡ l .l = omega arith in
-    (omega arith, (l .inv .1 .0, sought-miss _ _ (l .l - 1) _ (omega arith) (ap not (sym (c .before .flips-at .ensures) ∙ c .if2 .left)) (rw e (l .inv .1 .1))))
+    (omega arith, (l .inv .1 .0, sought-hit _ _ _ (omega arith) (ap not (sym (c .before .flips-at .ensures) ∙ not-false _ (c .if2 .left)))))
 
 -- src/lib.rt:69:1
 returns-2 : tie.Need-returns-2 Inv-loop μ-loop
