@@ -8,7 +8,7 @@ use native.Mathlib.Omega.{arith}
 use native.Mathlib.Decide.{decLt}
 use lib.ListN.{length}
 use lib.Dec.{eqb}
-use borrow.Author.Tests.{eqb-true, lt-ltb, le-leb, ltb-true, ltb-false, leb-true, leb-false, not-true, not-false}
+use borrow.Author.Tests.{eqb-true, lt-ltb, ltb-true, leb-true, leb-false, not-true, not-false}
 use Rattle.laws.specs.Lowest.{lowest}
 use Rattle.laws.proofs.Lowest.{lowest-below, lowest-at}
 use Rattle.laws.proofs.Tests.{cases, not-both, and-l, and-r}

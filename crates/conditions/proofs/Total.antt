@@ -13,7 +13,7 @@ use Rattle.laws.specs.Lowest.{lowest}
 use Rattle.laws.proofs.Lowest.{lowest-below, lowest-none}
 use Rattle.laws.proofs.Tests.{cases, not-both}
 use Rattle.calculus.specs.Status.{Value, Unset, False, True, Links}
-use Rattle.calculus.specs.Order.{_⊑_, Condition2}
+use Rattle.calculus.specs.Order.{Condition2}
 use Rattle.calculus.specs.Places.{Grows, Monotone}
 use Rattle.calculus.proofs.Order.{true≢unset, true≢false as true≢false-value, Under, below-cases, cases-below}
 use Rattle.conditions.specs.Conditions.{Condition, reached, Evaluation, value}

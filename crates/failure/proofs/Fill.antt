@@ -1,21 +1,21 @@
 -- Link values from a number, filled link by link in rising order: the laws of a loop. Assumes nothing.
-use Prim.Native.Nat.{ℕ, zero, suc, _+_, _-_, _*_, _<_, _≤_, _/_, _%_}
-use mathlib.Core.Path.{_≡_, refl, sym, _∙_, ap, ap₂, subst, fun-ext}
-use mathlib.Core.Bool.{Bool, true, false, cond, true≢false}
+use Prim.Native.Nat.{ℕ, zero, suc, _+_, _-_, _<_, _≤_, _/_, _%_}
+use mathlib.Core.Path.{_≡_, refl, sym, _∙_, ap, fun-ext}
+use mathlib.Core.Bool.{Bool, true, false, cond}
 use mathlib.Core.List.{List, [], _∷_}
-use mathlib.Core.Logic.{_⊎_, inl, inr, ⊎-elim, by-cases}
+use mathlib.Core.Logic.{by-cases}
 use native.Mathlib.Omega.{arith}
 use native.Mathlib.Decide.{decLt, ℕ-discrete}
 use native.Mathlib.Nat.{sub-zero}
-use lib.ListN.{length, getD, set, replicate, length-set, length-replicate}
+use lib.ListN.{length, getD, set, replicate, length-set}
 use lib.Seq.{getD-set-same, getD-set-other}
 use lib.Dec.{eqb, ltb}
-use borrow.Author.Tests.{lt-ltb, le-ltb, ne-eqb, eq-eqb}
+use borrow.Author.Tests.{lt-ltb, ne-eqb, eq-eqb}
 use Rattle.laws.specs.Listed.{listed}
 use Rattle.laws.proofs.Listed.{left, left-hit, left-miss, left-end}
 use Rattle.laws.proofs.Up.{getD-constant}
 use Rattle.laws.proofs.Tests.{cond-all}
-use Rattle.calculus.specs.Status.{Value, Unset, Links, with-unset}
+use Rattle.calculus.specs.Status.{Value, Unset, with-unset}
 use Rattle.conditions.specs.Numbers.{undigit, assign}
 use Rattle.conditions.specs.Total.{spread}
 use Rattle.conditions.proofs.Total.{spread-assign}

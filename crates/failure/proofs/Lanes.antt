@@ -12,14 +12,14 @@ use lib.Seq.{getD-set-other}
 use borrow.Author.Tests.{lt-ltb, le-ltb, eq-eqb, ne-eqb}
 use Rattle.laws.specs.Listed.{listed}
 use Rattle.laws.proofs.Up.{getD-constant}
-use Rattle.calculus.specs.Status.{Value, Unset, False, True, Links, with-unset}
+use Rattle.calculus.specs.Status.{Value, Unset, False, Links, with-unset}
 use Rattle.conditions.specs.Numbers.{undigit, assign}
 use Rattle.conditions.specs.Failure.{isTrue, isFalse}
 use Rattle.conditions.specs.Total.{spread, bitValue, total}
 use Rattle.conditions.proofs.Total.{spread-assign}
 use Rattle.reach.specs.Masks.{hasBit}
 use Rattle.reach.proofs.Bits.{bit-none}
-use Rattle.lanes.specs.Lanes.{Shows, lanesAt, allUnset, linkLanes, LinksShow}
+use Rattle.lanes.specs.Lanes.{Shows, allUnset, linkLanes, LinksShow}
 use Rattle.words.specs.Words.{digitIs, Words}
 use Rattle.failure.proofs.Fill.{set-zero}
 

@@ -1,19 +1,19 @@
 -- Blocks of 64 total assignments decide whether a condition passes. Assumes nothing.
 use Prim.Native.Nat.{ℕ, _+_, _-_, _^_, _<_, _≤_}
-use mathlib.Core.Path.{_≡_, refl, sym, _∙_, ap, ap₂}
+use mathlib.Core.Path.{_≡_, refl, sym, _∙_, ap}
 use mathlib.Core.Bool.{Bool, true, false, cond, not}
 use mathlib.Core.List.{List}
 use mathlib.Core.Logic.{by-cases}
 use native.Mathlib.Omega.{arith}
 use native.Mathlib.Decide.{decLt}
-use lib.Dec.{eqb, leb}
+use lib.Dec.{eqb}
 use lib.ListN.{length, replicate}
 use lib.Bits.{bitOr, or-lt}
 use borrow.Author.Tests.{eq-eqb, eqb-true, le-leb, lt-leb, leb-true, leb-false}
 use Rattle.laws.specs.Tests.{or}
 use Rattle.laws.specs.Lowest.{lowest}
 use Rattle.laws.specs.Listed.{listed}
-use Rattle.laws.proofs.Tests.{cases, not-both, refuted}
+use Rattle.laws.proofs.Tests.{not-both, refuted}
 use Rattle.laws.proofs.Lowest.{lowest-at, lowest-below, lowest-none}
 use Rattle.calculus.specs.Status.{Value, Unset, False, Links}
 use Rattle.conditions.specs.Failure.{isTrue}

@@ -1,19 +1,17 @@
 -- What is known of a row that is narrow, and its failure from what the searches find. Assumes nothing.
 use Prim.Native.Nat.{ℕ, _^_, _<_, _≤_}
-use mathlib.Core.Path.{_≡_, refl, sym, _∙_, ap, ap₂}
-use mathlib.Core.Bool.{Bool, true, false, not}
+use mathlib.Core.Path.{_≡_, refl, _∙_, ap, ap₂}
+use mathlib.Core.Bool.{true, false, not}
 use mathlib.Core.List.{List}
-use native.Mathlib.Omega.{arith}
 use native.Mathlib.Nat.{pow-le-pow-right}
 use lib.ListN.{length}
-use borrow.Author.Tests.{le-leb, lt-leb, not-true, not-false}
+use borrow.Author.Tests.{not-true, not-false}
 use Rattle.laws.specs.Listed.{listed}
-use Rattle.laws.proofs.Lowest.{Searched, searched-stop, searched-end}
-use Rattle.calculus.specs.Status.{Value, Unset, False, Links}
+use Rattle.calculus.specs.Status.{Links}
 use Rattle.conditions.specs.Conditions.{condition}
 use Rattle.conditions.specs.Numbers.{assign}
-use Rattle.conditions.specs.Failure.{isTrue, offender, quiet, number}
-use Rattle.conditions.specs.Total.{total, steady, passes}
+use Rattle.conditions.specs.Failure.{offender}
+use Rattle.conditions.specs.Total.{steady, passes}
 use Rattle.conditions.proofs.Total.{condition-passes, condition-unsteady}
 use Rattle.sheet.specs.Table.{conditionRowAt, evaluationOf, evalOf}
 use Rattle.reach.specs.Masks.{hasBit}

@@ -1,7 +1,7 @@
 // The failure of one condition. Pass is decided by 2 to the number of links, the number is searched among 3 to it, both 64 at a time.
 ghost use mathlib.Core.Path.{_≡_};
 ghost use mathlib.Core.Bool.{not};
-ghost use Prim.Native.Nat.{ℕ, _+_, _*_, _^_, _<_, _≤_, _%_};
+ghost use Prim.Native.Nat.{_+_, _*_, _^_, _<_, _≤_, _%_};
 ghost use lib.ListN.{length};
 ghost use Rattle.laws.specs.Listed.{listed};
 ghost use Rattle.conditions.specs.Numbers.{assign};

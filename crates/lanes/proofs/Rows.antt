@@ -1,25 +1,23 @@
 -- The laws of lanes: rows from their operands, and a table of them that is filled in rising order. Assumes nothing.
-use Prim.Native.Nat.{ℕ, zero, suc, _+_, _<_, _≤_}
-use mathlib.Core.Path.{_≡_, refl, sym, _∙_, ap, fun-ext, subst}
-use mathlib.Core.Bool.{Bool, true, false, cond}
+use Prim.Native.Nat.{ℕ, zero, suc, _+_, _<_}
+use mathlib.Core.Path.{_≡_, refl, sym, _∙_, fun-ext, subst}
 use mathlib.Core.List.{List}
 use mathlib.Core.Logic.{by-cases}
 use native.Mathlib.Omega.{arith}
 use native.Mathlib.Decide.{decLt, ℕ-discrete}
-use lib.Dec.{ltb}
 use lib.ListN.{getD, length, set, replicate, length-set}
 use lib.Seq.{getD-set-same, getD-set-other}
 use Rattle.laws.specs.Up.{below}
 use Rattle.laws.proofs.Up.{below-in, below-out, getD-constant}
 use Rattle.calculus.specs.Status.{Value, False, True, Links}
-use Rattle.conditions.specs.Conditions.{ConditionRow, FALSE, TRUE, LINK, OP}
+use Rattle.conditions.specs.Conditions.{FALSE, TRUE, LINK, OP}
 use Rattle.conditions.specs.Operators.{Operator}
 use Rattle.conditions.specs.ByRows.{valueBy}
 use Rattle.conditions.proofs.ByRows.{value-at}
 use Rattle.sheet.specs.Table.{conditionRowAt, evaluationOf, evalOf}
 use Rattle.lanes.specs.declared.Lanes.{Lanes}
 use Rattle.lanes.specs.Lanes.{Shows, lanesAt, linkLanes, LinksShow, RowsShow, Operated, Stepped, Valued}
-use Rattle.lanes.proofs.Operators.{true-lanes, false-lanes}
+use Rattle.lanes.proofs.Operators.{false-lanes}
 
 pub shows-same : (w : Lanes) (x y : ℕ → Value) → ((j : ℕ) → x j ≡ y j) → Shows w x → Shows w y
 shows-same w x y h s = subst (Shows w) (fun-ext h) s

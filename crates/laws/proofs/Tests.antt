@@ -81,3 +81,12 @@ pub or-none : (a : Bool) → or a false ≡ a
 unfolding or
 or-none true = refl
 or-none false = refl
+
+-- two tests that agree
+abbrev pub same : Bool → Bool → Bool
+same a b = cond a b (cond b false true)
+
+pub same-is : (a b : Bool) → same a b ≡ true → a ≡ b
+same-is true b e = sym e
+same-is false true e = absurd (true≢false (sym e))
+same-is false false e = refl

@@ -6,20 +6,20 @@ use mathlib.Core.List.{List}
 use mathlib.Core.Logic.{by-cases}
 use native.Mathlib.Omega.{arith}
 use native.Mathlib.Decide.{ℕ-discrete}
-use lib.Dec.{eqb, ltb}
+use lib.Dec.{eqb}
 use lib.ListN.{length, getD, set, replicate}
 use lib.Seq.{getD-set-other}
 use borrow.Author.Tests.{lt-ltb, le-ltb, ne-eqb, not-true, not-false}
 use Rattle.laws.specs.Up.{Filled}
-use Rattle.laws.proofs.Tests.{and-l, and-false}
+use Rattle.laws.proofs.Tests.{and-l}
 use Rattle.laws.proofs.Up.{filled-at, getD-constant}
 use Rattle.calculus.specs.Process.{act, out, join, pick, flow}
-use Rattle.steps.specs.Rows.{Row, NIL, PREFIX, BRANCH}
+use Rattle.steps.specs.Rows.{NIL, PREFIX, BRANCH}
 use Rattle.sheet.specs.Table.{Table, rowBy, rowAt, evalOf}
 use Rattle.reach.specs.Masks.{maskAt}
 use Rattle.conditions.specs.Numbers.{assign}
 use Rattle.conditions.specs.Failure.{offender}
-use Rattle.failure.specs.Failure.{linksAt, failsAt, numberAt, linkAt, Narrow}
+use Rattle.failure.specs.Failure.{linksAt, numberAt, Narrow}
 use Rattle.failure.proofs.Search.{link-is}
 use Rattle.verdict.specs.declared.Verdict.the-variants.{Pass, Fail}
 use Rattle.verdict.specs.Verdict.{isJoinPrefix, isJoin, conditionOfPrefix, conditionOf, failsIn, sound, failing, failAt, verdictOf, Judged}

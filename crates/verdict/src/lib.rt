@@ -1,7 +1,7 @@
 // The verdict of a table. Each condition row is tried once; number and link are searched for one JOIN only.
 ghost use mathlib.Core.Path.{_≡_};
-ghost use mathlib.Core.Bool.{not, true};
-ghost use Prim.Native.Nat.{ℕ, _+_, _*_, _<_, _≤_};
+ghost use mathlib.Core.Bool.{true};
+ghost use Prim.Native.Nat.{_+_, _*_, _<_, _≤_};
 ghost use lib.ListN.{length, getD};
 ghost use Rattle.laws.specs.Up.{Filled};
 ghost use Rattle.sheet.specs.Table.{tableOf, rowAt};

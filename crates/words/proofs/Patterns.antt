@@ -1,11 +1,11 @@
 -- The constant words and powers, and the words that are made digit by digit or lane by lane. Assumes nothing.
 use Prim.Native.Nat.{ℕ, zero, suc, _+_, _-_, _^_, _<_, _≤_, _/_, _%_}
 use mathlib.Core.Path.{_≡_, refl, sym, _∙_, ap, ap₂}
-use mathlib.Core.Bool.{Bool, true, false, cond, not, true≢false}
+use mathlib.Core.Bool.{Bool, true, false, not}
 use mathlib.Core.List.{List, [], _∷_}
 use mathlib.Core.Logic.{by-cases}
 use native.Mathlib.Omega.{arith}
-use native.Mathlib.Decide.{ℕ-discrete, decLt}
+use native.Mathlib.Decide.{ℕ-discrete}
 use native.Mathlib.Nat.{pow-suc}
 use lib.Dec.{eqb}
 use lib.ListN.{getD}
@@ -14,7 +14,7 @@ use borrow.Author.Tests.{eq-eqb, ne-eqb}
 use Rattle.laws.specs.Tests.{or}
 use Rattle.laws.specs.Lowest.{lowest}
 use Rattle.laws.proofs.Lowest.{lowest-below}
-use Rattle.laws.proofs.Tests.{self, or-r, or-none}
+use Rattle.laws.proofs.Tests.{same, same-is, self, or-r, or-none}
 use Rattle.reach.specs.Masks.{hasBit}
 use Rattle.reach.proofs.Bits.{bit-full, bit-none, bit-not, bit-or, bit-power}
 use Rattle.words.specs.Words.{DigitWord}
@@ -36,14 +36,6 @@ power-at (suc (suc (suc (suc (suc (suc (suc (suc (suc q))))))))) h = absurd (ome
 
 abbrev pub patterns : List ℕ
 patterns = 12297829382473034410 ∷ 14757395258967641292 ∷ 17361641481138401520 ∷ 18374966859414961920 ∷ 18446462603027742720 ∷ 18446744069414584320 ∷ []
-
-abbrev same : Bool → Bool → Bool
-same a b = cond a b (not b)
-
-same-is : (a b : Bool) → same a b ≡ true → a ≡ b
-same-is true b e = sym e
-same-is false true e = absurd (true≢false (sym e))
-same-is false false e = refl
 
 -- all lanes of a word, tested at once
 abbrev lanes : ℕ → ℕ → ℕ

@@ -5,7 +5,6 @@ use mathlib.Core.Bool.{Bool, true, false, cond}
 use mathlib.Core.List.{List, [], _∷_}
 use lib.Dec.{eqb}
 use lib.ListN.{getD}
-use Rattle.laws.specs.Listed.{listed}
 use Rattle.reach.specs.Masks.{hasBit}
 
 -- 3 for link values that may be unset, 2 for total ones

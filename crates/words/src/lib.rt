@@ -1,6 +1,6 @@
 // Which links have a given digit at 64 numbers at once: a word for each link.
 ghost use mathlib.Core.Path.{_≡_};
-ghost use Prim.Native.Nat.{ℕ, _+_, _^_, _<_, _≤_, _%_};
+ghost use Prim.Native.Nat.{_+_, _^_, _<_, _≤_, _%_};
 ghost use lib.ListN.{length};
 ghost use Rattle.laws.specs.Listed.{listed};
 ghost use Rattle.reach.specs.Masks.{hasBit};

@@ -1,4 +1,3 @@
-use Prim.Native.Nat.{_<_}
 use Rattle.words.specs.Words.{baseOf}
 use borrow.Author.Needs.{needs}
 use Rattle.words.proofs.digit_word.Statement.{statement}
