@@ -17,7 +17,8 @@ fn bit(l: u8) -> u64
     1 << l
 }
 
-fn mask_of(masks: &[u64; 256], row: u8) -> u64
+// The mask of a row, from a table of masks.
+pub fn mask_of(masks: &[u64; 256], row: u8) -> u64
     ensures { λ r. ⌜ r ≡ getD (now (masks .entry)) row 0 ⌝ }
 {
     masks[row as usize]

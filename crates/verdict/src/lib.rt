@@ -25,12 +25,6 @@ fn wide(x: u8) -> usize
     x as usize
 }
 
-fn mask_of(masks: &[u64; 256], row: u8) -> u64
-    ensures { λ r. ⌜ r ≡ getD (now (masks .entry)) row 0 ⌝ }
-{
-    masks[row as usize]
-}
-
 fn tried(seen: &[u8; 256], row: u8) -> u8
     ensures { λ r. ⌜ r ≡ getD (now (seen .entry)) row 0 ⌝ }
 {
@@ -63,7 +57,7 @@ fn is_sound(h: Head, ts: &[u8], cs: &[u8], masks: &[u64; 256], seen: &[u8; 256],
     if old == 1 {
         return true;
     }
-    let mask = mask_of(masks, c);
+    let mask = reach::mask_of(masks, c);
     let passed = failure::passes(h.evaluation, h.m, cs, wide(c), mask);
     passed
 }
@@ -74,7 +68,7 @@ fn fail(h: Head, ts: &[u8], cs: &[u8], masks: &[u64; 256], j: usize) -> Verdict
     ensures { λ r. ⌜ r ≡ failAt (tableOf h (now (ts .entry)) (now (cs .entry))) j ⌝ }
 {
     let c = ts[j * 4 + 1];
-    let mask = mask_of(masks, c);
+    let mask = reach::mask_of(masks, c);
     let row = wide(c);
     let x = failure::number(h.evaluation, h.m, cs, row, mask);
     let l = failure::link(h.evaluation, h.m, cs, row, mask, x);
