@@ -138,6 +138,9 @@ module _ (e : Evaluation) (m : ℕ) (c : Condition) (small : (k : ℕ) → reach
   pub condition-fails : (fails (value e c) m (linksOf m c) ≡ true) ↔ (Condition2 (value e c) → ⊥)
   condition-fails = fails-exactly (value e c) m (linksOf m c) (links-inside m c) (links-decide e m c small)
 
+  pub condition-holds : fails (value e c) m (linksOf m c) ≡ false → Condition2 (value e c)
+  condition-holds = holds-2 (value e c) m (linksOf m c) (links-inside m c) (links-decide e m c small)
+
   -- exactly if there are link values A and B, A with some of B's false links unset, with the condition true in B and not in A
   pub condition-pair : (fails (value e c) m (linksOf m c) ≡ true) ↔ Pair (value e c)
   condition-pair = fails-pair (value e c) m (linksOf m c) (links-inside m c) (links-decide e m c small)

@@ -12,7 +12,7 @@ use Rattle.conditions.specs.Conditions.{isSet}
 abbrev pub every : (Value → Bool) → Bool
 every p = p Unset && p False && p True
 
-pub every-is : (p : Value → Bool) → every p ≡ true → (a : Value) → p a ≡ true
+every-is : (p : Value → Bool) → every p ≡ true → (a : Value) → p a ≡ true
 every-is p e Unset = and-l (p Unset) (p False) (and-l _ (p True) e)
 every-is p e False = and-r (p Unset) (p False) (and-l _ (p True) e)
 every-is p e True = and-r (p Unset && p False) (p True) e

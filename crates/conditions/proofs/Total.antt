@@ -11,7 +11,7 @@ use lib.Dec.{eqb}
 use borrow.Author.Tests.{eqb-true, eq-eqb, le-leb, leb-true}
 use Rattle.laws.specs.Lowest.{lowest}
 use Rattle.laws.proofs.Lowest.{lowest-below, lowest-none}
-use Rattle.laws.proofs.Tests.{cases}
+use Rattle.laws.proofs.Tests.{cases, not-both}
 use Rattle.calculus.specs.Status.{Value, Unset, False, True, Links}
 use Rattle.calculus.specs.Order.{Condition2}
 use Rattle.calculus.specs.Places.{Grows, Monotone}
@@ -22,7 +22,7 @@ use Rattle.conditions.specs.Failure.{isTrue, fails}
 use Rattle.conditions.specs.Total.{spread, bitValue, total, steady, passes}
 use Rattle.conditions.proofs.Evaluation.{value-monotone}
 use Rattle.conditions.proofs.Numbers.{links-decide, links-inside}
-use Rattle.conditions.proofs.Failure.{true-is, fails-not, holds-2}
+use Rattle.conditions.proofs.Failure.{true-is, fails-not, holds-2, condition-fails}
 
 pub spread-assign : (ls : List ℕ) (x k : ℕ) → spread undigit 3 ls x k ≡ assign ls x k
 unfolding spread assign
@@ -110,10 +110,15 @@ steady-if False w h = refl
 steady-if True w h = ap isTrue (h refl)
 
 module _ (value : Links → Value) (ls : List ℕ) where
+  -- a condition that meets condition (2) is steady at every number
+  meets-steady : Condition2 value → (j : ℕ) → steady value ls j ≡ true
+  unfolding steady
+  meets-steady s j = steady-if _ _ (λ o. s (total Unset ls j) (total False ls j) o (λ k. cases-below (total-under ls j k)))
+
   meets-passes : Condition2 value → passes value ls ≡ true
-  unfolding passes steady
+  unfolding passes
   meets-passes s =
-      let e : lowest (steady value ls) 0 (2 ^ length ls) ≡ 0 + 2 ^ length ls = lowest-none (steady value ls) 0 (2 ^ length ls) (λ j a b. steady-if _ _ (λ o. s (total Unset ls j) (total False ls j) o (λ k. cases-below (total-under ls j k)))) in
+      let e : lowest (steady value ls) 0 (2 ^ length ls) ≡ 0 + 2 ^ length ls = lowest-none (steady value ls) 0 (2 ^ length ls) (λ j a b. meets-steady s j) in
       le-leb (2 ^ length ls) (lowest (steady value ls) 0 (2 ^ length ls)) (omega arith)
 
   module _ (depends : (v w : Links) → ((k : ℕ) → List·Memᴰ k ls → v k ≡ w k) → value v ≡ value w) (monotone : Monotone value) where
@@ -140,3 +145,7 @@ module _ (value : Links → Value) (ls : List ℕ) where
 
 pub condition-passes : (e : Evaluation) (m : ℕ) (c : Condition) → ((k : ℕ) → reached c k ≡ true → k < m) → passes (value e c) (linksOf m c) ≡ not (fails (value e c) m (linksOf m c))
 condition-passes e m c small = passes-is (value e c) (linksOf m c) (links-decide e m c small) (value-monotone e c) m (links-inside m c)
+
+-- a number at which a condition is not steady, however great, shows that it fails
+pub condition-unsteady : (e : Evaluation) (m : ℕ) (c : Condition) → ((k : ℕ) → reached c k ≡ true → k < m) → (s : ℕ) → steady (value e c) (linksOf m c) s ≡ false → fails (value e c) m (linksOf m c) ≡ true
+condition-unsteady e m c small s q = condition-fails e m c small .1 (λ meets. not-both (meets-steady (value e c) (linksOf m c) meets s) q)

@@ -8,6 +8,7 @@ use lib.Dec.{eqb}
 use lib.Bits.{bitOr}
 use borrow.Author.Tests.{lt-ltb, le-ltb, ne-eqb}
 use Rattle.laws.specs.Tests.{or}
+use Rattle.laws.proofs.Tests.{or-none}
 use Rattle.calculus.specs.Process.{Process, Prefix, Branching}
 use Rattle.calculus.specs.Places.{own, sets}
 use Rattle.steps.specs.Rows.{Row, NIL, PREFIX, BRANCH, termBy, term, firstOf, secondOf, isSource, Kids}
@@ -20,11 +21,6 @@ use Rattle.reach.proofs.Bits.{bit-or, bit-none}
 use Rattle.moves.specs.Steps.{remainderIn}
 use Rattle.moves.specs.Fits.{keepsBy, keeps}
 use Rattle.effects.specs.Gather.{Gathers, ownSets, keptFirst, keptSecond, setsAt, AllKids}
-
-or-none : (b : Bool) → or b false ≡ b
-unfolding or
-or-none true = refl
-or-none false = refl
 
 there : (q n : ℕ) (b : Bool) → 0 < q → cond (b && not (eqb q 0)) q n ≡ cond b q n
 there q n true h = rw (ne-eqb q 0 (λ e. omega arith)) refl

@@ -1,6 +1,6 @@
 // The values of condition rows under link values, in rising order of the rows.
 ghost use mathlib.Core.Path.{_≡_};
-ghost use Prim.Native.Nat.{ℕ, _+_, _*_, _<_, _≤_};
+ghost use Prim.Native.Nat.{_+_, _*_, _<_, _≤_};
 ghost use lib.ListN.{length, getD};
 ghost use Rattle.conditions.specs.Operators.{table};
 ghost use Rattle.conditions.specs.Numbers.{digit, undigit};

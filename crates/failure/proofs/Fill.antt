@@ -30,7 +30,7 @@ unfolding linksIn
 links-same t l y h g = rw (lt-ltb l 64 h, getD-set-same t l y 0 g)
 
 -- one link is made unset
-set-zero : (t : List ℕ) (l : ℕ) → getD (set t l 0) l 0 ≡ 0
+pub set-zero : (t : List ℕ) (l : ℕ) → getD (set t l 0) l 0 ≡ 0
 set-zero [] l = refl
 set-zero (x ∷ t) zero = refl
 set-zero (x ∷ t) (suc l) = set-zero t l

@@ -1,1 +1,2 @@
 pub mod Failure
+pub mod Blocks

@@ -1,30 +1,20 @@
-// The failure of one condition. Pass is decided by 2 to the number of links; number and link are searched among 3 to it.
+// The failure of one condition. Pass is decided by 2 to the number of links, the number is searched among 3 to it, both 64 at a time.
 ghost use mathlib.Core.Path.{_≡_};
 ghost use mathlib.Core.Bool.{not};
-ghost use Prim.Native.Nat.{ℕ, _+_, _*_, _^_, _<_, _≤_};
+ghost use Prim.Native.Nat.{_+_, _*_, _^_, _<_, _≤_, _%_};
 ghost use lib.ListN.{length};
 ghost use Rattle.laws.specs.Listed.{listed};
-ghost use Rattle.conditions.specs.Numbers.{undigit, assign};
+ghost use Rattle.conditions.specs.Numbers.{assign};
 ghost use Rattle.conditions.specs.Failure.{isTrue, flips, offender};
-ghost use Rattle.conditions.specs.Total.{bitValue, total, steady};
 ghost use Rattle.sheet.specs.Table.{evalOf};
 ghost use Rattle.reach.specs.Masks.{hasBit};
 ghost use Rattle.evaluate.specs.Values.{linksIn};
+ghost use Rattle.failure.specs.Blocks.{steadyBlock, Without, Flippers, Offenders};
 ghost use Rattle.failure.specs.Failure.{linksAt, failsAt, numberAt, failureOf, Narrow};
 
 pub enum Failure {
     None,
     At { number: usize, link: usize },
-}
-
-// The powers of 3.
-const POWERS: [usize; 9] = [1, 3, 9, 27, 81, 243, 729, 2187, 6561];
-
-fn three_to(q: usize) -> usize
-    requires { ⌜ q ≤ 8 ⌝ }
-    ensures { λ r. ⌜ r ≡ 3 ^ q ⌝ }
-{
-    POWERS[q]
 }
 
 fn two_to(q: usize) -> usize
@@ -54,36 +44,6 @@ fn numbered(mask: u64, m: usize, x: usize) -> [u8; 64]
     links
 }
 
-fn bit_value(low: u8, d: usize) -> u8
-    requires { ⌜ low < 2 ⌝ }
-    ensures { λ r. ⌜ undigit r ≡ bitValue (undigit low) d ⌝ }
-{
-    if d == 1 {
-        return 2;
-    }
-    low
-}
-
-// The same in base 2: digit 1 is true, digit 0 is `low`.
-fn halved(mask: u64, m: usize, low: u8, s: usize) -> [u8; 64]
-    requires { ⌜ (m ≤ 64) × (low < 2) ⌝ }
-    ensures { λ r. ⌜ linksIn r ≡ total (undigit low) (listed (hasBit mask) 0 m) s ⌝ }
-{
-    let mut links = [0; 64];
-    let mut rest = s;
-    let mut l = 0;
-    while l < m {
-        if reach::reached(mask, l) {
-            links[l] = bit_value(low, rest % 2);
-            rest = rest / 2;
-            l += 1;
-        } else {
-            l += 1;
-        }
-    }
-    links
-}
-
 // The condition is true.
 fn holds(evaluation: u8, cs: &[u8], row: usize, links: &[u8; 64]) -> bool
     requires { ⌜ (row * 4 + 4 ≤ length (now cs)) × (row < 256) ⌝ }
@@ -105,7 +65,7 @@ fn flips_at(evaluation: u8, cs: &[u8], row: usize, links: [u8; 64], l: usize) ->
     !holds(evaluation, cs, row, &other)
 }
 
-// The lowest link that offends at link values; m where none does.
+// The lowest link that offends at link values; m where none does. From the highest link down, so that the last one found is the lowest.
 fn offender_at(evaluation: u8, cs: &[u8], row: usize, m: usize, links: [u8; 64]) -> usize
     requires { ⌜ (row * 4 + 4 ≤ length (now cs)) × ((row < 256) × (m ≤ 64)) ⌝ }
     ensures { λ r. ⌜ r ≡ offender (evalOf evaluation (now (cs .entry)) row) m (linksIn links) ⌝ }
@@ -113,26 +73,31 @@ fn offender_at(evaluation: u8, cs: &[u8], row: usize, m: usize, links: [u8; 64])
     if !holds(evaluation, cs, row, &links) {
         return m;
     }
-    let mut l = 0;
-    while l < m {
-        if flips_at(evaluation, cs, row, links, l) {
-            return l;
+    let mut found = m;
+    let mut l = m;
+    while 0 < l {
+        let k = l - 1;
+        if !flips_at(evaluation, cs, row, links, k) {
+            l = k;
+        } else {
+            found = k;
+            l = k;
         }
-        l += 1;
     }
-    l
+    found
 }
 
-fn steady_at(evaluation: u8, cs: &[u8], row: usize, mask: u64, m: usize, s: usize) -> bool
-    requires { ⌜ (row * 4 + 4 ≤ length (now cs)) × ((row < 256) × (m ≤ 64)) ⌝ }
-    ensures { λ r. ⌜ r ≡ steady (evalOf evaluation (now (cs .entry)) row) (listed (hasBit mask) 0 m) s ⌝ }
+// At 64 total assignments: the condition is true only where it stays true with every false link unset.
+fn steady_block(evaluation: u8, m: usize, cs: &[u8], row: usize, mask: u64, x: usize) -> bool
+    requires { ⌜ (Narrow m (now cs) row mask) × ((x % 64 ≡ 0) × (x ≤ 6561)) ⌝ }
+    ensures { λ r. ⌜ r ≡ steadyBlock (evalOf evaluation (now (cs .entry)) row) (linksAt m (now (cs .entry)) row) x ⌝ }
 {
-    let top = halved(mask, m, 1, s);
-    if !holds(evaluation, cs, row, &top) {
-        return true;
-    }
-    let bottom = halved(mask, m, 0, s);
-    holds(evaluation, cs, row, &bottom)
+    let trues = words::words(false, 1, mask, m, x);
+    let falses = words::words(false, 0, mask, m, x);
+    let none = [0; 64];
+    let top = lanes::value(evaluation, cs, row, &trues, &falses);
+    let low = lanes::value(evaluation, cs, row, &trues, &none);
+    (top.trues | low.trues) == low.trues
 }
 
 // The condition passes.
@@ -141,14 +106,73 @@ pub fn passes(evaluation: u8, m: usize, cs: &[u8], row: usize, mask: u64) -> boo
     ensures { λ r. ⌜ r ≡ not (failsAt evaluation m (now (cs .entry)) row) ⌝ }
 {
     let all = two_to(reach::width(mask));
-    let mut s = 0;
-    while s < all {
-        if !steady_at(evaluation, cs, row, mask, m, s) {
+    let mut x = 0;
+    while x < all {
+        if !steady_block(evaluation, m, cs, row, mask, x) {
             return false;
         }
-        s += 1;
+        x += 64;
     }
     true
+}
+
+// The lanes that are true with one link made unset.
+fn without(
+    evaluation: u8,
+    cs: &[u8],
+    row: usize,
+    trues: [u64; 64],
+    falses: [u64; 64],
+    l: usize,
+) -> u64
+    requires { ⌜ (row * 4 + 4 ≤ length (now cs)) × ((row < 256) × (l < 64)) ⌝ }
+    ensures { λ r. ⌜ Without evaluation (now (cs .entry)) row trues falses l r ⌝ }
+{
+    let mut t = trues;
+    let mut f = falses;
+    t[l] = 0;
+    f[l] = 0;
+    let low = lanes::value(evaluation, cs, row, &t, &f);
+    low.trues
+}
+
+// The lanes in which some false link, made unset, leaves the condition not true.
+fn flippers(
+    evaluation: u8,
+    cs: &[u8],
+    row: usize,
+    m: usize,
+    trues: [u64; 64],
+    falses: [u64; 64],
+) -> u64
+    requires { ⌜ (row * 4 + 4 ≤ length (now cs)) × ((row < 256) × (m ≤ 64)) ⌝ }
+    ensures { λ r. ⌜ Flippers evaluation (now (cs .entry)) row trues falses m r ⌝ }
+{
+    let mut word = 0;
+    let mut l = 0;
+    while l < m {
+        let w = falses[l];
+        if w != 0 {
+            let low = without(evaluation, cs, row, trues, falses, l);
+            word = word | (w & !low);
+            l += 1;
+        } else {
+            l += 1;
+        }
+    }
+    word
+}
+
+// The lanes of 64 numbers at which a link offends.
+fn offenders(evaluation: u8, m: usize, cs: &[u8], row: usize, mask: u64, x: usize) -> u64
+    requires { ⌜ (Narrow m (now cs) row mask) × ((x % 64 ≡ 0) × (x ≤ 6561)) ⌝ }
+    ensures { λ r. ⌜ Offenders (evalOf evaluation (now (cs .entry)) row) m (linksAt m (now (cs .entry)) row) x r ⌝ }
+{
+    let trues = words::words(true, 2, mask, m, x);
+    let falses = words::words(true, 1, mask, m, x);
+    let top = lanes::value(evaluation, cs, row, &trues, &falses);
+    let word = flippers(evaluation, cs, row, m, trues, falses);
+    top.trues & word
 }
 
 // The smallest number at which a link offends.
@@ -156,16 +180,20 @@ pub fn number(evaluation: u8, m: usize, cs: &[u8], row: usize, mask: u64) -> usi
     requires { ⌜ Narrow m (now cs) row mask ⌝ }
     ensures { λ r. ⌜ r ≡ numberAt evaluation m (now (cs .entry)) row ⌝ }
 {
-    let all = three_to(reach::width(mask));
+    let all = words::three_to(reach::width(mask));
     let mut x = 0;
     while x < all {
-        let links = numbered(mask, m, x);
-        if offender_at(evaluation, cs, row, m, links) < m {
-            return x;
+        let word = offenders(evaluation, m, cs, row, mask, x);
+        if word != 0 {
+            let s = x + u64::trailing_zeros(word) as usize;
+            if all < s {
+                return all;
+            }
+            return s;
         }
-        x += 1;
+        x += 64;
     }
-    x
+    all
 }
 
 // The lowest link that offends at a number.

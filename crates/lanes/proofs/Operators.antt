@@ -1,9 +1,10 @@
 -- The word operations are the operators, lane by lane. Each table is one computed test of all values. Assumes nothing.
 use Prim.Native.Nat.{ℕ, _<_}
-use mathlib.Core.Path.{_≡_, refl, sym, _∙_, ap₂}
-use mathlib.Core.Bool.{Bool, true, false, cond, _&&_, not, true≢false}
+use mathlib.Core.Path.{_≡_, refl, _∙_, ap₂}
+use mathlib.Core.Bool.{Bool, true, false, _&&_}
 use lib.Bits.{bitAnd, bitOr}
 use Rattle.laws.specs.Tests.{or}
+use Rattle.laws.proofs.Tests.{same, same-is}
 use Rattle.calculus.specs.Status.{Value, False, True}
 use Rattle.conditions.specs.Operators.{Operator, AND, OR, EQ, NE, table}
 use Rattle.conditions.specs.Conditions.{Evaluation, Strict, Lazy}
@@ -15,14 +16,6 @@ use Rattle.reach.specs.Masks.{hasBit}
 use Rattle.reach.proofs.Bits.{bit-and, bit-or, bit-none, bit-full}
 use Rattle.lanes.specs.declared.Lanes.{Lanes}
 use Rattle.lanes.specs.Lanes.{Shows, Operated}
-
-abbrev same : Bool → Bool → Bool
-same a b = cond a b (not b)
-
-same-is : (a b : Bool) → same a b ≡ true → a ≡ b
-same-is true b e = sym e
-same-is false true e = absurd (true≢false (sym e))
-same-is false false e = refl
 
 -- a test of two values that agrees everywhere with another
 agree : (p q : Value → Value → Bool) → every₂ (λ a b. same (p a b) (q a b)) ≡ true → (a b : Value) → p a b ≡ q a b

@@ -1,8 +1,7 @@
 // The value of a condition row under 64 link values at once: an operator is a few operations on words.
 ghost use mathlib.Core.Path.{_≡_};
-ghost use mathlib.Core.Bool.{Bool};
-ghost use Prim.Native.Nat.{ℕ, _+_, _*_, _<_, _≤_};
-ghost use lib.ListN.{length, getD};
+ghost use Prim.Native.Nat.{_+_, _*_, _<_, _≤_};
+ghost use lib.ListN.{length};
 ghost use Rattle.calculus.specs.Status.{truth};
 ghost use Rattle.conditions.specs.Operators.{AND, OR, EQ, NE};
 ghost use Rattle.sheet.specs.Table.{operatorOf, conditionRowBy, conditionRowAt};

@@ -6,7 +6,7 @@ use Prim.Native.Nat.{ℕ, zero, suc, _+_, _-_, _≤_, _<_}
 use native.Mathlib.Omega.{arith}
 use native.Mathlib.Nat.{sub-zero}
 use native.Mathlib.Numerals.{add-one}
-use native.Mathlib.Decide.{ℕ-discrete}
+use native.Mathlib.Decide.{ℕ-discrete, decLt}
 use Rattle.laws.specs.Lowest.{lowest}
 use Rattle.laws.proofs.Tests.{cases, not-both}
 
@@ -90,3 +90,11 @@ module _ (p : ℕ → Bool) (n i : ℕ) (s : Searched p n i) where
   pub searched-end : n ≤ i → i ≡ lowest p 0 n
   unfolding Searched
   searched-end h = sym (s ∙ lowest-end p i n h)
+
+-- the number below which the test holds and at which it fails
+pub lowest-is : (p : ℕ → Bool) (n s : ℕ) → ((j : ℕ) → j < s → p j ≡ true) → s < n → p s ≡ false → lowest p 0 n ≡ s
+lowest-is p n s f h e =
+    let found : lowest p 0 n < 0 + n = lowest-found p 0 n s (omega arith) (omega arith) e in
+    by-cases (decLt (lowest p 0 n) s)
+    (λ a. absurd (not-both (f (lowest p 0 n) a) (lowest-at p 0 n found)))
+    (λ a. by-cases (decLt s (lowest p 0 n)) (λ b. absurd (not-both (lowest-below p 0 n s (omega arith) b) e)) (λ b. omega arith))

@@ -1,8 +1,9 @@
 -- The binary digits of a number, of a power of two, of two numbers joined, and how many are set. Assumes nothing.
 use Prim.Native.Nat.{ℕ, zero, suc, _+_, _-_, _*_, _/_, _%_, _^_, _<_, min, max}
-use mathlib.Core.Path.{_≡_, refl, sym, _∙_, ap}
-use mathlib.Core.Bool.{Bool, true, false, cond, _&&_, true≢false}
+use mathlib.Core.Path.{_≡_, refl, sym, _∙_, ap, ap₂}
+use mathlib.Core.Bool.{Bool, true, false, cond, not, _&&_, true≢false}
 use mathlib.Core.List.{List, _∷_}
+use mathlib.Core.Logic.{by-cases}
 use native.Mathlib.Omega.{arith}
 use native.Mathlib.Decide.{decLt}
 use native.Mathlib.Nat.{div-eq-of-lt, div-self, div-one, pow-suc, mul-comm, div-div-eq-div-mul}
@@ -11,10 +12,12 @@ use lib.ListN.{length}
 use lib.Bits.{bitAnd, bitOr, and-shr, or-shr, and-step, or-step}
 use lib.Arith.{digits-div}
 use lib.Pow.{pow-lt, pow-add, shl-shr, pow-pos, ones-split}
-use lib.Count.{ones, onesIn, ones-step}
-use borrow.Author.Tests.{eq-eqb, ne-eqb}
+use lib.Count.{ones, onesIn, ones-step, under, trailingZeros}
+use borrow.Author.Tests.{eq-eqb, ne-eqb, not-true}
 use Rattle.laws.specs.Tests.{or}
+use Rattle.laws.specs.Lowest.{lowest}
 use Rattle.laws.specs.Listed.{listed}
+use Rattle.laws.proofs.Lowest.{lowest-below}
 use Rattle.reach.specs.Masks.{hasBit}
 
 -- two digits joined are a digit
@@ -105,6 +108,23 @@ bit-full n l h =
     let z : (2 ^ n - 1) / 2 ^ l ≡ 2 ^ suc d - 1 = ap (λ (x : ℕ). (2 ^ x - 1) / 2 ^ l) e ∙ ap (λ (x : ℕ). x / 2 ^ l) (ones-split (suc d) l) ∙ digits-div (2 ^ suc d - 1) (omega (arith, pow-pos l)) in
     eq-eqb _ 1 (ap (λ (x : ℕ). x % 2) z ∙ (omega (arith, pow-pos d)))
 
+not-digit : (d : ℕ) → d < 2 → eqb (1 - d) 1 ≡ not (eqb d 1)
+not-digit zero h = refl
+not-digit (suc zero) h = refl
+not-digit (suc (suc d)) h = absurd (omega arith)
+
+-- the digits of the complement
+pub bit-not : (n x l : ℕ) → x < 2 ^ n → l < n → hasBit (2 ^ n - 1 - x) l ≡ not (hasBit x l)
+bit-not zero x l h k = absurd (omega arith)
+bit-not (suc n) x zero h k =
+    let p : 2 ^ suc n ≡ 2 ^ n * 2 = pow-suc 2 n in
+    let low : (2 ^ suc n - 1 - x) % 2 ≡ 1 - x % 2 = omega arith in
+    bit-first (2 ^ suc n - 1 - x) ∙ ap (λ (d : ℕ). eqb d 1) low ∙ not-digit (x % 2) (omega arith) ∙ ap not (sym (bit-first x))
+bit-not (suc n) x (suc l) h k =
+    let p : 2 ^ suc n ≡ 2 ^ n * 2 = pow-suc 2 n in
+    let high : (2 ^ suc n - 1 - x) / 2 ≡ 2 ^ n - 1 - x / 2 = omega arith in
+    bit-half (2 ^ suc n - 1 - x) l ∙ ap (λ (y : ℕ). hasBit y l) high ∙ bit-not n (x / 2) l (omega arith) (omega arith) ∙ ap not (sym (bit-half x l))
+
 same-digit : (p q : ℕ) → p < 2 → q < 2 → eqb p 1 ≡ eqb q 1 → p ≡ q
 same-digit zero zero h k e = refl
 same-digit zero (suc zero) h k e = absurd (true≢false (sym e))
@@ -148,3 +168,32 @@ ones-listed (suc d) x h =
     ap (λ (n : ℕ). x % 2 + n) (ones-listed d (x / 2) (omega arith) ∙ sym (shifted (hasBit x) (hasBit (x / 2)) 0 d (bit-half x))) ∙
     digit-counts (x % 2) (omega arith) 0 (listed (hasBit x) 1 d) ∙
     ap (λ (b : Bool). length (cond b (0 ∷ listed (hasBit x) 1 d) (listed (hasBit x) 1 d))) (sym (bit-first x))
+
+-- the zeros below the lowest digit that is set
+shifted-lowest : (p q : ℕ → Bool) (i c : ℕ) → ((j : ℕ) → p (suc j) ≡ q j) → lowest p (suc i) c ≡ suc (lowest q i c)
+unfolding lowest
+shifted-lowest p q i zero h = refl
+shifted-lowest p q i (suc c) h = rw (h i) (at (q i) (shifted-lowest p q (suc i) c h))
+  where
+    at : (b : Bool) → lowest p (suc (suc i)) c ≡ suc (lowest q (suc i) c) → cond b (lowest p (suc (suc i)) c) (suc i) ≡ suc (cond b (lowest q (suc i) c) i)
+    at true ih = ih
+    at false ih = refl
+
+under-digit : (d t : ℕ) → d < 2 → under d t ≡ cond (not (eqb d 1)) (suc t) 0
+under-digit zero t h = refl
+under-digit (suc zero) t h = refl
+under-digit (suc (suc d)) t h = absurd (omega arith)
+
+pub trailing-lowest : (k n : ℕ) → trailingZeros k n ≡ lowest (λ j. not (hasBit n j)) 0 k
+unfolding trailingZeros lowest
+trailing-lowest zero n = refl
+trailing-lowest (suc k) n =
+    ap (under (n % 2)) (trailing-lowest k (n / 2)) ∙
+    under-digit (n % 2) (lowest (λ j. not (hasBit (n / 2) j)) 0 k) (omega arith) ∙
+    ap₂ (λ (b : Bool) (t : ℕ). cond (not b) t 0) (sym (bit-first n)) (sym (shifted-lowest (λ j. not (hasBit n j)) (λ j. not (hasBit (n / 2) j)) 0 k (λ j. ap not (bit-half n j))))
+
+-- a word that is not 0 has a digit
+pub bits-some : (n x : ℕ) → x < 2 ^ n → (x ≡ 0 → ⊥) → lowest (λ j. not (hasBit x j)) 0 n < n
+bits-some n x h z =
+    by-cases (decLt (lowest (λ j. not (hasBit x j)) 0 n) n) (λ k. k)
+    (λ k. absurd (z (bits-same n x 0 h (pow-pos n) (λ l g. not-true _ (lowest-below (λ j. not (hasBit x j)) 0 n l (omega arith) (omega arith)) ∙ sym (bit-none l)))))

@@ -1,6 +1,6 @@
 // The links that each condition row reaches, as the bits of a word.
 ghost use mathlib.Core.Path.{_≡_};
-ghost use Prim.Native.Nat.{ℕ, _+_, _*_, _<_, _≤_};
+ghost use Prim.Native.Nat.{_+_, _*_, _<_, _≤_};
 ghost use lib.ListN.{length, getD};
 ghost use lib.Bits.{bitOr};
 ghost use Rattle.laws.specs.Up.{Filled};
@@ -18,7 +18,8 @@ pub fn bit(l: u8) -> u64
     1 << l
 }
 
-fn mask_of(masks: &[u64; 256], row: u8) -> u64
+// The mask of a row, from a table of masks.
+pub fn mask_of(masks: &[u64; 256], row: u8) -> u64
     ensures { λ r. ⌜ r ≡ getD (now (masks .entry)) row 0 ⌝ }
 {
     masks[row as usize]

@@ -1,7 +1,7 @@
 // The verdict of a table. Each condition row is tried once; number and link are searched for one JOIN only.
 ghost use mathlib.Core.Path.{_≡_};
-ghost use mathlib.Core.Bool.{not, true};
-ghost use Prim.Native.Nat.{ℕ, _+_, _*_, _<_, _≤_};
+ghost use mathlib.Core.Bool.{true};
+ghost use Prim.Native.Nat.{_+_, _*_, _<_, _≤_};
 ghost use lib.ListN.{length, getD};
 ghost use Rattle.laws.specs.Up.{Filled};
 ghost use Rattle.sheet.specs.Table.{tableOf, rowAt};
@@ -23,12 +23,6 @@ fn wide(x: u8) -> usize
     ensures { λ r. ⌜ r ≡ x ⌝ }
 {
     x as usize
-}
-
-fn mask_of(masks: &[u64; 256], row: u8) -> u64
-    ensures { λ r. ⌜ r ≡ getD (now (masks .entry)) row 0 ⌝ }
-{
-    masks[row as usize]
 }
 
 fn tried(seen: &[u8; 256], row: u8) -> u8
@@ -63,7 +57,7 @@ fn is_sound(h: Head, ts: &[u8], cs: &[u8], masks: &[u64; 256], seen: &[u8; 256],
     if old == 1 {
         return true;
     }
-    let mask = mask_of(masks, c);
+    let mask = reach::mask_of(masks, c);
     let passed = failure::passes(h.evaluation, h.m, cs, wide(c), mask);
     passed
 }
@@ -74,7 +68,7 @@ fn fail(h: Head, ts: &[u8], cs: &[u8], masks: &[u64; 256], j: usize) -> Verdict
     ensures { λ r. ⌜ r ≡ failAt (tableOf h (now (ts .entry)) (now (cs .entry))) j ⌝ }
 {
     let c = ts[j * 4 + 1];
-    let mask = mask_of(masks, c);
+    let mask = reach::mask_of(masks, c);
     let row = wide(c);
     let x = failure::number(h.evaluation, h.m, cs, row, mask);
     let l = failure::link(h.evaluation, h.m, cs, row, mask, x);

@@ -9,15 +9,15 @@ use Rattle.failure.proofs.link.Lts as lts
 use Rattle.failure.proofs.numbered.Reads as numbered-reads
 use Rattle.failure.proofs.offender_at.Reads as offender-at-reads
 
--- src/lib.rt:179:9
+-- src/lib.rt:190:9
 numbered-requires : tie.Need-numbered-requires
 numbered-requires c κs = search needs
 
--- src/lib.rt:180:5
+-- src/lib.rt:191:5
 offender-at-requires : tie.Need-offender-at-requires
 offender-at-requires c κs = search needs
 
--- src/lib.rt:175:1
+-- src/lib.rt:186:1
 returns : tie.Need-returns
 returns c = c .offender-at .ensures ∙ ap (offender _ _) (narrow-assign _ _ _ _ (c .before .before .before .pre) _ _ (c .before .numbered .ensures))
 

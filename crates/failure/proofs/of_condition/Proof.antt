@@ -9,23 +9,23 @@ use Rattle.failure.proofs.link.Reads as link-reads
 use Rattle.failure.proofs.number.Reads as number-reads
 use Rattle.failure.proofs.passes.Reads as passes-reads
 
--- src/lib.rt:188:8
+-- src/lib.rt:199:8
 passes-requires : tie.Need-passes-requires
 passes-requires c κs = search needs
 
--- src/lib.rt:189:9
+-- src/lib.rt:200:9
 returns : tie.Need-returns
 returns c = failure-none _ _ _ _ (sym (c .before .passes .ensures) ∙ c .if1 .taken)
 
--- src/lib.rt:191:9
+-- src/lib.rt:202:9
 number-requires : tie.Need-number-requires
 number-requires c κs = search needs
 
--- src/lib.rt:192:9
+-- src/lib.rt:203:9
 link-requires : tie.Need-link-requires
 link-requires c κs = search needs
 
--- src/lib.rt:184:1
+-- src/lib.rt:195:1
 returns-2 : tie.Need-returns-2
 returns-2 c = failure-at _ _ _ _ _ _ (sym (c .before .before .before .passes .ensures) ∙ c .before .before .if1 .left) (c .before .number .ensures) (c .link .ensures)
 

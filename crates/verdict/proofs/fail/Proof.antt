@@ -7,7 +7,7 @@ use Rattle.verdict.proofs.fail.Reads as reads
 use Rattle.verdict.proofs.fail.Lts as lts
 use Rattle.failure.proofs.link.Reads as link-reads
 use Rattle.failure.proofs.number.Reads as number-reads
-use Rattle.verdict.proofs.mask_of.Reads as mask-of-reads
+use Rattle.reach.proofs.mask_of.Reads as mask-of-reads
 use Rattle.verdict.proofs.wide.Reads as wide-reads
 
 -- src/lib.rt:75:16

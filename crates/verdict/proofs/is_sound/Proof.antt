@@ -7,7 +7,7 @@ use Rattle.verdict.proofs.is_sound.Tie as tie
 use Rattle.verdict.proofs.is_sound.Reads as reads
 use Rattle.verdict.proofs.is_sound.Lts as lts
 use Rattle.failure.proofs.passes.Reads as passes-reads
-use Rattle.verdict.proofs.mask_of.Reads as mask-of-reads
+use Rattle.reach.proofs.mask_of.Reads as mask-of-reads
 use Rattle.verdict.proofs.tried.Reads as tried-reads
 use Rattle.verdict.proofs.wide.Reads as wide-reads
 
