@@ -1,0 +1,49 @@
+-- The step of a row from tables of what is reached and of the conditions' values, and what taking it answers.
+use Prim.Native.Nat.{ℕ}
+use mathlib.Core.Bool.{Bool, true, false, cond, _&&_}
+use mathlib.Core.List.{List}
+use lib.Dec.{eqb, ltb}
+use lib.ListN.{getD}
+use Rattle.laws.specs.Tests.{bit}
+use Rattle.calculus.specs.Process.{Prefix, act, out, join}
+use Rattle.calculus.specs.Places.{cleans}
+use Rattle.steps.specs.Rows.{Row, NIL, PREFIX, BRANCH}
+use Rattle.steps.specs.Marks.{Marks}
+use Rattle.steps.specs.InFront.{waitingStep}
+use Rattle.sheet.specs.Table.{Table, rowAt}
+use Rattle.state.specs.declared.State.{State}
+use Rattle.state.specs.declared.StepKind.{StepKind}
+use Rattle.state.specs.declared.StepKind.the-variants.{Act, Set, Open, Clean, Refused}
+use Rattle.moves.specs.Steps.{modeOf, kindAt, steppedOf}
+use Rattle.engine.specs.declared.Stepped.{Stepped}
+
+unfoldable pub joinKind : ℕ → ℕ → ℕ → StepKind
+joinKind r mode v = cond (eqb v 2) Open (cond (eqb v 1 && cleans (modeOf mode)) Clean (Refused 11 r))
+
+unfoldable pub prefixKind : ℕ → ℕ → Prefix → (ℕ → ℕ) → StepKind
+prefixKind r mode (act a) f = Act a
+prefixKind r mode (out l b) f = Set l (bit b)
+prefixKind r mode (join c) f = joinKind r mode (f c)
+
+unfoldable pub rowKind : ℕ → ℕ → Row → (ℕ → ℕ) → StepKind
+rowKind r mode NIL f = Refused 11 r
+rowKind r mode (PREFIX π c) f = prefixKind r mode π f
+rowKind r mode (BRANCH κ p q) f = Refused 11 r
+
+unfoldable pub kindFrom : List ℕ → ℕ → ℕ → Marks → (ℕ → Bool) → (ℕ → ℕ) → ℕ → StepKind
+kindFrom ts n mode μ reached f r = cond (ltb r n && reached r && waitingStep (rowAt ts r) (μ r)) (rowKind r mode (rowAt ts r) f) (Refused 11 r)
+
+abbrev pub isStep : StepKind → Bool
+isStep (Act a) = true
+isStep (Set l v) = true
+isStep Open = true
+isStep Clean = true
+isStep (Refused a b) = false
+
+-- the row has a step, from the tables of marks, of what is reached, of values
+unfoldable pub stepFrom : List ℕ → ℕ → ℕ → List ℕ → List ℕ → List ℕ → ℕ → Bool
+stepFrom ts n mode marks seen vals r = isStep (kindFrom ts n mode (λ k. getD marks k 0) (λ k. eqb (getD seen k 0) 1) (λ q. getD vals q 0) r)
+
+-- the kind that was taken, or 11 and the row; and the state after
+unfoldable pub takenAnswer : Table → State → ℕ → Stepped
+takenAnswer t s r = record { ok = isStep (kindAt t s r); answer = kindAt t s r; state = steppedOf t s r }

@@ -1,0 +1,248 @@
+// The step of a row in a state, the list of steps, and taking one, for an accepted table.
+ghost use mathlib.Core.Path.{_≡_};
+ghost use mathlib.Core.List.{_++_};
+ghost use Prim.Native.Nat.{ℕ, _+_, _*_, _<_, _≤_};
+ghost use lib.Dec.{eqb};
+ghost use lib.ListN.{length, getD, drop};
+ghost use Rattle.laws.specs.Tests.{bit};
+ghost use Rattle.laws.specs.Listed.{listed, written};
+ghost use Rattle.calculus.specs.Places.{cleans};
+ghost use Rattle.sheet.specs.Table.{tableOf, rowAt};
+ghost use Rattle.sheet.specs.Accepted.{WellFormed};
+ghost use Rattle.moves.specs.Steps.{modeOf, kindAt, listedOf};
+ghost use Rattle.engine.specs.ByValue.{joinKind, rowKind, kindFrom, isStep, stepFrom, takenAnswer};
+use sheet::Head;
+use state::State;
+use state::StepKind;
+
+// Whether a step was taken, which or why not, and the state after.
+pub struct Stepped {
+    pub ok: bool,
+    pub answer: StepKind,
+    pub state: State,
+}
+
+fn cleans(mode: u8) -> bool
+    ensures { λ r. ⌜ r ≡ cleans (modeOf mode) ⌝ }
+{
+    mode == 1
+}
+
+// A JOIN in front, by the value of its condition.
+fn join_kind(row: usize, mode: u8, value: u8) -> StepKind
+    ensures { λ r. ⌜ r ≡ joinKind row mode value ⌝ }
+{
+    if value == 2 {
+        return StepKind::Open;
+    }
+    if (value == 1) & cleans(mode) {
+        return StepKind::Clean;
+    }
+    StepKind::Refused(11, row)
+}
+
+fn one(b: u8) -> u8
+    ensures { λ r. ⌜ r ≡ bit (eqb b 1) ⌝ }
+{
+    if b == 1 {
+        return 1;
+    }
+    0
+}
+
+fn value_at(vals: &[u8; 256], row: u8) -> u8
+    ensures { λ r. ⌜ r ≡ getD (now (vals .entry)) row 0 ⌝ }
+{
+    vals[row as usize]
+}
+
+// The step of a row in front.
+fn row_kind(ts: &[u8], row: usize, mode: u8, vals: &[u8; 256]) -> StepKind
+    requires { ⌜ row * 4 + 4 ≤ length (now ts) ⌝ }
+    ensures { λ r. ⌜ r ≡ rowKind row mode (rowAt (now (ts .entry)) row) (λ q. getD (now (vals .entry)) q 0) ⌝ }
+{
+    let at = row * 4;
+    match ts[at] {
+        1 => StepKind::Act(ts[at + 1]),
+        2 => StepKind::Set(ts[at + 1], one(ts[at + 2])),
+        3 => join_kind(row, mode, value_at(vals, ts[at + 1])),
+        _ => StepKind::Refused(11, row),
+    }
+}
+
+// The step of any row, from what is reached and the values of the conditions.
+fn kind_from(
+    ts: &[u8],
+    n: usize,
+    mode: u8,
+    marks: &[u8; 256],
+    reached: &[u8; 256],
+    vals: &[u8; 256],
+    row: usize,
+) -> StepKind
+    requires { ⌜ (n * 4 ≤ length (now ts)) × (n ≤ 256) ⌝ }
+    ensures { λ r. ⌜ r ≡ kindFrom (now (ts .entry)) n mode (λ k. getD (now (marks .entry)) k 0) (λ k. eqb (getD (now (reached .entry)) k 0) 1) (λ q. getD (now (vals .entry)) q 0) row ⌝ }
+{
+    if n <= row {
+        return StepKind::Refused(11, row);
+    }
+    if reached[row] != 1 {
+        return StepKind::Refused(11, row);
+    }
+    if !front::waiting_step(ts, row, marks[row]) {
+        return StepKind::Refused(11, row);
+    }
+    row_kind(ts, row, mode, vals)
+}
+
+// The step of a row in a state, or 11 and the row.
+pub fn kind(h: Head, ts: &[u8], cs: &[u8], s: State, row: usize) -> StepKind
+    requires { ⌜ WellFormed (tableOf h (now ts) (now cs)) ⌝ }
+    ensures { λ r. ⌜ r ≡ kindAt (tableOf h (now (ts .entry)) (now (cs .entry))) s row ⌝ }
+{
+    let reached = front::ask(front::REACHED, ts, h.n, &s.marks);
+    let vals = evaluate::values(h.evaluation, cs, h.k, &s.links);
+    kind_from(ts, h.n, s.mode, &s.marks, &reached, &vals, row)
+}
+
+fn is_step(kind: StepKind) -> bool
+    ensures { λ r. ⌜ r ≡ isStep kind ⌝ }
+{
+    match kind {
+        StepKind::Act(_) => true,
+        StepKind::Set(_, _) => true,
+        StepKind::Open => true,
+        StepKind::Clean => true,
+        StepKind::Refused(_, _) => false,
+    }
+}
+
+// Taking the step of a row; a row without one leaves the state as it is.
+pub fn take(h: Head, ts: &[u8], cs: &[u8], s: State, row: usize) -> Stepped
+    requires { ⌜ WellFormed (tableOf h (now ts) (now cs)) ⌝ }
+    ensures { λ r. ⌜ r ≡ takenAnswer (tableOf h (now (ts .entry)) (now (cs .entry))) s row ⌝ }
+{
+    match kind(h, ts, cs, s, row) {
+        StepKind::Act(a) => Stepped {
+            ok: true,
+            answer: StepKind::Act(a),
+            state: effects::taken(ts, h.n, s, row),
+        },
+        StepKind::Set(l, v) => Stepped {
+            ok: true,
+            answer: StepKind::Set(l, v),
+            state: effects::taken(ts, h.n, s, row),
+        },
+        StepKind::Open => Stepped {
+            ok: true,
+            answer: StepKind::Open,
+            state: effects::taken(ts, h.n, s, row),
+        },
+        StepKind::Clean => Stepped {
+            ok: true,
+            answer: StepKind::Clean,
+            state: effects::dropped(ts, h.n, s, row),
+        },
+        StepKind::Refused(a, b) => Stepped {
+            ok: false,
+            answer: StepKind::Refused(a, b),
+            state: s,
+        },
+    }
+}
+
+fn has_step(
+    ts: &[u8],
+    n: usize,
+    mode: u8,
+    marks: &[u8; 256],
+    reached: &[u8; 256],
+    vals: &[u8; 256],
+    row: usize,
+) -> bool
+    requires { ⌜ (n * 4 ≤ length (now ts)) × (n ≤ 256) ⌝ }
+    ensures { λ r. ⌜ r ≡ stepFrom (now (ts .entry)) n mode (now (marks .entry)) (now (reached .entry)) (now (vals .entry)) row ⌝ }
+{
+    is_step(kind_from(ts, n, mode, marks, reached, vals, row))
+}
+
+// How many rows have a step.
+fn count(
+    ts: &[u8],
+    n: usize,
+    mode: u8,
+    marks: &[u8; 256],
+    reached: &[u8; 256],
+    vals: &[u8; 256],
+) -> usize
+    requires { ⌜ (n * 4 ≤ length (now ts)) × (n ≤ 256) ⌝ }
+    ensures { λ r. ⌜ r ≡ length (listed (stepFrom (now (ts .entry)) n mode (now (marks .entry)) (now (reached .entry)) (now (vals .entry))) 0 n) ⌝ }
+{
+    let mut found = 0;
+    let mut i = 0;
+    while i < n {
+        if has_step(ts, n, mode, marks, reached, vals, i) {
+            found += 1;
+            i += 1;
+        } else {
+            i += 1;
+        }
+    }
+    found
+}
+
+// The rows that have a step, in rising order.
+fn write(
+    ts: &[u8],
+    n: usize,
+    mode: u8,
+    marks: &[u8; 256],
+    reached: &[u8; 256],
+    vals: &[u8; 256],
+    out: &mut [u8],
+)
+    requires { ⌜ (n * 4 ≤ length (now ts)) × ((n ≤ 256) × (length (listed (stepFrom (now ts) n mode (now marks) (now reached) (now vals)) 0 n) ≤ length (now out))) ⌝ }
+    ensures { λ _. ⌜ now (out .exit) ≡ listed (stepFrom (now (ts .entry)) n mode (now (marks .entry)) (now (reached .entry)) (now (vals .entry))) 0 n ++ drop (length (listed (stepFrom (now (ts .entry)) n mode (now (marks .entry)) (now (reached .entry)) (now (vals .entry))) 0 n)) (now (out .entry)) ⌝ }
+{
+    let mut found = 0;
+    let mut i = 0;
+    while i < n {
+        if has_step(ts, n, mode, marks, reached, vals, i) {
+            out[found] = i as u8;
+            found += 1;
+            i += 1;
+        } else {
+            i += 1;
+        }
+    }
+}
+
+fn fill(
+    ts: &[u8],
+    n: usize,
+    mode: u8,
+    marks: &[u8; 256],
+    reached: &[u8; 256],
+    vals: &[u8; 256],
+    out: &mut [u8],
+) -> usize
+    requires { ⌜ (n * 4 ≤ length (now ts)) × (n ≤ 256) ⌝ }
+    ensures { λ r. ⌜ (r ≡ length (listed (stepFrom (now (ts .entry)) n mode (now (marks .entry)) (now (reached .entry)) (now (vals .entry))) 0 n)) × (now (out .exit) ≡ written (listed (stepFrom (now (ts .entry)) n mode (now (marks .entry)) (now (reached .entry)) (now (vals .entry))) 0 n) (now (out .entry))) ⌝ }
+{
+    let size = count(ts, n, mode, marks, reached, vals);
+    if out.len() < size {
+        return size;
+    }
+    write(ts, n, mode, marks, reached, vals, out);
+    size
+}
+
+// The rows that have a step to a lent buffer, and their number; a buffer that is too short is left as it is.
+pub fn list(h: Head, ts: &[u8], cs: &[u8], s: State, out: &mut [u8]) -> usize
+    requires { ⌜ WellFormed (tableOf h (now ts) (now cs)) ⌝ }
+    ensures { λ r. ⌜ (r ≡ length (listedOf (tableOf h (now (ts .entry)) (now (cs .entry))) s)) × (now (out .exit) ≡ written (listedOf (tableOf h (now (ts .entry)) (now (cs .entry))) s) (now (out .entry))) ⌝ }
+{
+    let reached = front::ask(front::REACHED, ts, h.n, &s.marks);
+    let vals = evaluate::values(h.evaluation, cs, h.k, &s.links);
+    fill(ts, h.n, s.mode, &s.marks, &reached, &vals, out)
+}
