@@ -29,6 +29,11 @@ unfolding or
 or-bars true b = refl
 or-bars false b = refl
 
+pub or-bars-two : (a b c : Bool) → a || (b || c) ≡ or a (or b c)
+unfolding or
+or-bars-two true b c = refl
+or-bars-two false b c = or-bars b c
+
 -- a row that is no ACT, OUT, JOIN or PICK
 rest-is : (kind a b c : ℕ) → eqb kind 1 ≡ false → eqb kind 2 ≡ false → eqb kind 3 ≡ false → eqb kind 4 ≡ false → (C : Row → Type 0) → C NIL → C (BRANCH flow a b) → C (rowBy kind a b c)
 unfolding rowBy

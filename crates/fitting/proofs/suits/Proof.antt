@@ -1,7 +1,7 @@
 use borrow.Author.Tests.{ne-eqb}
 use Rattle.sheet.specs.Table.{rowBy, rowAt}
 use Rattle.moves.specs.Fits.{suitsPrefix, suitsBranch, suits}
-use Rattle.fitting.proofs.ByKind.{or-bars, suits-rest}
+use Rattle.fitting.proofs.ByKind.{or-bars, or-bars-two, suits-rest}
 use borrow.Author.Needs.{needs}
 use Rattle.fitting.proofs.suits.Statement.{statement}
 use Rattle.fitting.proofs.suits.Tie as tie
@@ -39,7 +39,7 @@ returns-3 c = rw (c .before .match .keys3, c .cleaning .ensures) (or-bars _ _)
 -- src/lib.rt:34:1
 returns-4 : tie.Need-returns-4
 unfolding rowAt rowBy suits suitsBranch
-returns-4 c = rw (c .match .keys4, ← or-bars, ← or-bars)
+returns-4 c = rw (c .match .keys4) (or-bars-two _ _ _)
 
 -- src/lib.rt:34:1
 returns-5 : tie.Need-returns-5
