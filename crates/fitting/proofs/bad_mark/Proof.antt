@@ -19,35 +19,35 @@ Inv-loop mode ts n marks row₀ row = Scanned (marksFit ts n (modeOf mode) (λ k
 abbrev μ-loop : tie.MeasureT-loop
 μ-loop mode ts n marks row₀ row = 256 - row
 
--- src/lib.rt:128:5
+-- src/lib.rt:129:5
 loop-holds : tie.Need-loop-holds Inv-loop μ-loop
 loop-holds c = scanned-none _
 
--- src/lib.rt:129:39
+-- src/lib.rt:130:39
 element-copy-out-mark-ok : tie.Need-element-copy-out-mark-ok Inv-loop μ-loop
 element-copy-out-mark-ok c = omega arith
 
--- src/lib.rt:129:13
+-- src/lib.rt:130:13
 mark-ok-requires : tie.Need-mark-ok-requires Inv-loop μ-loop
 mark-ok-requires c κs = omega arith
 
--- src/lib.rt:130:13
+-- src/lib.rt:131:13
 returns : tie.Need-returns Inv-loop μ-loop
 returns c = scanned-stop _ _ (c .before .before .before .before .loop .inv) (c .before .before .before .loop-test .taken) (mark-read _ _ _ _ _ _ (c .before .mark-ok .ensures) ∙ not-true _ (c .if1 .taken))
 
--- src/lib.rt:132:9
+-- src/lib.rt:133:9
 add-row : tie.Need-add-row Inv-loop μ-loop
 add-row c = omega arith
 
--- src/lib.rt:128:5
+-- src/lib.rt:129:5
 loop-less : tie.Need-loop-less Inv-loop μ-loop
 loop-less c = omega arith
 
--- src/lib.rt:128:5
+-- src/lib.rt:129:5
 loop-again : tie.Need-loop-again Inv-loop μ-loop
 loop-again c = scanned-more _ _ (c .before .before .before .before .loop .inv) (c .before .before .before .loop-test .taken) (mark-read _ _ _ _ _ _ (c .before .mark-ok .ensures) ∙ not-false _ (c .if1 .left))
 
--- src/lib.rt:123:1
+-- src/lib.rt:124:1
 returns-2 : tie.Need-returns-2 Inv-loop μ-loop
 returns-2 c = scanned-end _ _ (c .before .loop .inv) (c .loop-test .left)
 

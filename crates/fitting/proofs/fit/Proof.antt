@@ -11,19 +11,19 @@ use Rattle.fitting.proofs.fit.Lts as lts
 use Rattle.fitting.proofs.fit_marks.Reads as fit-marks-reads
 use Rattle.fitting.proofs.wide.Reads as wide-reads
 
--- src/lib.rt:243:20
+-- src/lib.rt:244:20
 wide-requires : tie.Need-wide-requires
 wide-requires c κs = search needs
 
--- src/lib.rt:241:9
+-- src/lib.rt:242:9
 returns : tie.Need-returns
 returns c = rw (c .wide .ensures) (one-place-fails refuse (refuse 0 0) _ _ (omega arith) (lt-leb _ 1 (c .before .if1 .taken)))
 
--- src/lib.rt:246:5
+-- src/lib.rt:247:5
 fit-marks-requires : tie.Need-fit-marks-requires
 fit-marks-requires c κs = search needs
 
--- src/lib.rt:235:1
+-- src/lib.rt:236:1
 returns-2 : tie.Need-returns-2
 returns-2 c = c .fit-marks .ensures ∙ one-place-holds refuse (refuse 0 0) _ _ (omega arith) (le-leb _ 1 (c .before .if1 .left))
 

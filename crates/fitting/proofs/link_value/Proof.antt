@@ -6,11 +6,11 @@ use Rattle.fitting.proofs.link_value.Tie as tie
 use Rattle.fitting.proofs.link_value.Reads as reads
 use Rattle.fitting.proofs.link_value.Lts as lts
 
--- src/lib.rt:96:16
+-- src/lib.rt:97:16
 element-copy-out-result : tie.Need-element-copy-out-result
 element-copy-out-result c = search needs
 
--- src/lib.rt:96:9
+-- src/lib.rt:97:9
 returns : tie.Need-returns
 returns c = search needs
 
