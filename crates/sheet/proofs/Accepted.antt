@@ -28,8 +28,8 @@ use Rattle.sheet.specs.Rules.{sized, settled, same, namings, timesNamed,
 use Rattle.sheet.specs.Accepted.{WellFormed, SingleSource, Narrow}
 use Rattle.sheet.proofs.Rows.{PrefixOk, RowOk, term-row, row-kids, row-source, LinkOk, condition-row}
 
--- a table that is not refused meets every rule
-none-refused : (c : Check) (cs : List Check) → (c .number ≡ 0 → ⊥) → checked refuse (refuse 0 0) (c ∷ cs) .number ≡ 0 → Holds c × (checked refuse (refuse 0 0) cs .number ≡ 0)
+-- what is not refused meets every rule
+pub none-refused : (c : Check) (cs : List Check) → (c .number ≡ 0 → ⊥) → checked refuse (refuse 0 0) (c ∷ cs) .number ≡ 0 → Holds c × (checked refuse (refuse 0 0) cs .number ≡ 0)
 none-refused c cs some e =
     by-cases (decLt (placeOf c) (c .upto))
     (λ h. absurd (some (ap (λ (r : Refusal). r .number) (checked-fails refuse (refuse 0 0) c cs (placeOf c) refl h) ∙ e)))

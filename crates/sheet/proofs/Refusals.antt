@@ -14,7 +14,7 @@ use Rattle.sheet.specs.Table.{Table}
 use Rattle.sheet.specs.Rules.{tableChecks, refuse, refusalOf}
 
 -- no check has the number 0
-unfoldable numbered : List Check → Bool
+unfoldable pub numbered : List Check → Bool
 numbered [] = true
 numbered (c ∷ cs) = not (eqb (c .number) 0) && numbered cs
 
@@ -22,7 +22,7 @@ not-zero : (x : ℕ) → not (eqb x 0) ≡ true → x ≡ 0 → ⊥
 not-zero x e z = true≢false (sym (rw (eq-eqb x 0 z) at e))
 
 module _ {A : Type 0} (answer : ℕ → ℕ → A) (good : A) where
-  refused-by : (cs : List Check) → numbered cs ≡ true → (checked refuse (refuse 0 0) cs .number ≡ 0 → ⊥) → answer (checked refuse (refuse 0 0) cs .number) (checked refuse (refuse 0 0) cs .place) ≡ checked answer good cs
+  pub refused-by : (cs : List Check) → numbered cs ≡ true → (checked refuse (refuse 0 0) cs .number ≡ 0 → ⊥) → answer (checked refuse (refuse 0 0) cs .number) (checked refuse (refuse 0 0) cs .place) ≡ checked answer good cs
   unfolding checked numbered
   refused-by [] n h = absurd (h refl)
   refused-by (c ∷ cs) n h = at (ltb (placeOf c) (c .upto)) (refused-by cs (and-r (not (eqb (c .number) 0)) _ n)) h
@@ -31,7 +31,7 @@ module _ {A : Type 0} (answer : ℕ → ℕ → A) (good : A) where
       at true ih h = refl
       at false ih h = ih h
 
-  accepted-by : (cs : List Check) → numbered cs ≡ true → checked refuse (refuse 0 0) cs .number ≡ 0 → good ≡ checked answer good cs
+  pub accepted-by : (cs : List Check) → numbered cs ≡ true → checked refuse (refuse 0 0) cs .number ≡ 0 → good ≡ checked answer good cs
   unfolding checked numbered
   accepted-by [] n e = refl
   accepted-by (c ∷ cs) n e = at (ltb (placeOf c) (c .upto)) (accepted-by cs (and-r (not (eqb (c .number) 0)) _ n)) e

@@ -1,0 +1,3 @@
+pub mod ByKind
+pub mod Places
+pub mod Fitted

@@ -1,0 +1,24 @@
+-- The checks of a state against a table, 9 and 10, in order; `fromC` is the list from 10 (c) on.
+use Prim.Native.Nat.{ℕ}
+use mathlib.Core.List.{List, [], _∷_}
+use Rattle.laws.specs.Checks.{Check}
+use Rattle.state.specs.declared.State.{State}
+use Rattle.moves.specs.Steps.{modeOf, marksOf}
+use Rattle.moves.specs.Fits.{modeCheck, marksFit, linksFit, waitsFit, clearFit}
+
+module _ (n : ℕ) (ts : List ℕ) (s : State) where
+  abbrev pub fromD : List Check
+  fromD = clearFit ts n (marksOf s) (s .links) ∷ []
+
+  abbrev pub fromC : List Check
+  fromC = waitsFit ts n (marksOf s) ∷ fromD
+
+module _ (m n : ℕ) (ts : List ℕ) (s : State) where
+  abbrev pub fromB : List Check
+  fromB = linksFit m (s .links) ∷ fromC n ts s
+
+  abbrev pub fromA : List Check
+  fromA = marksFit ts n (modeOf (s .mode)) (marksOf s) ∷ fromB
+
+  abbrev pub stateChecks : List Check
+  stateChecks = modeCheck (s .mode) ∷ fromA
