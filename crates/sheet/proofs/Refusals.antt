@@ -1,14 +1,14 @@
 -- The refusal of a table, told in the words of any call's answer. Assumes nothing.
 use Prim.Native.Nat.{ℕ, _+_, _<_}
-use mathlib.Core.Path.{_≡_, refl, sym}
+use mathlib.Core.Path.{_≡_, refl, sym, _∙_}
 use mathlib.Core.Bool.{Bool, true, false, cond, _&&_, not, true≢false}
-use mathlib.Core.List.{List, [], _∷_}
+use mathlib.Core.List.{List, [], _∷_, _++_}
 use native.Mathlib.Omega.{arith}
 use lib.Dec.{eqb, ltb}
 use borrow.Author.Tests.{eq-eqb}
 use Rattle.laws.specs.Checks.{Check, placeOf, checked}
 use Rattle.laws.proofs.Tests.{and-l, and-r}
-use Rattle.laws.proofs.Checks.{checked-fails, checked-holds, scanned-none, scanned-more, scanned-stop, scanned-end}
+use Rattle.laws.proofs.Checks.{checked-fails, checked-holds, checked-append, scanned-none, scanned-more, scanned-stop, scanned-end}
 use Rattle.sheet.specs.declared.Refusal.{Refusal}
 use Rattle.sheet.specs.Table.{Table}
 use Rattle.sheet.specs.Rules.{tableChecks, refuse, refusalOf}
@@ -48,6 +48,14 @@ module _ {A : Type 0} (answer : ℕ → ℕ → A) (good : A) where
     pub table-accepted : r .number ≡ 0 → good ≡ checked answer good (tableChecks t)
     unfolding refusalOf numbered
     table-accepted e = accepted-by (tableChecks t) refl (rw told at e)
+
+-- the table's checks, and then others
+module _ {A : Type 0} (answer : ℕ → ℕ → A) (good : A) (t : Table) (cs : List Check) (r : Refusal) (told : r ≡ refusalOf t) where
+  pub table-refused-first : (r .number ≡ 0 → ⊥) → answer (r .number) (r .place) ≡ checked answer good (tableChecks t ++ cs)
+  table-refused-first h = table-refused answer (checked answer good cs) t r told h ∙ sym (checked-append answer good (tableChecks t) cs)
+
+  pub table-accepted-first : r .number ≡ 0 → checked answer good cs ≡ checked answer good (tableChecks t ++ cs)
+  table-accepted-first e = table-accepted answer (checked answer good cs) t r told e ∙ sym (checked-append answer good (tableChecks t) cs)
 
 -- a check of one place
 pub one-place-fails : {A : Type 0} (answer : ℕ → ℕ → A) (good : A) (c : Check) (cs : List Check) → c .from < c .upto → c .rule (c .from) ≡ false → answer (c .number) (c .from) ≡ checked answer good (c ∷ cs)
