@@ -8,13 +8,12 @@ use lib.Seq.{length-take-le, drop-drop, paste, length-paste, take-paste, drop-pa
 use borrow.Author.Tests.{le-leb, lt-leb}
 use Rattle.laws.specs.Listed.{written}
 use Rattle.laws.specs.Checks.{checked}
-use Rattle.laws.proofs.Checks.{checked-append}
 use Rattle.sheet.specs.declared.Head.{Head}
 use Rattle.sheet.specs.declared.Refusal.{Refusal}
 use Rattle.sheet.specs.Table.{tableOf}
-use Rattle.sheet.specs.Rules.{tableChecks, refusalOf}
+use Rattle.sheet.specs.Rules.{refusalOf}
 use Rattle.sheet.specs.Sheet.{front, sheetOf, sizeOf, room}
-use Rattle.sheet.proofs.Refusals.{table-refused, table-accepted, one-place-fails, one-place-holds}
+use Rattle.sheet.proofs.Refusals.{table-refused-first, table-accepted-first, one-place-fails, one-place-holds}
 use Rattle.codec.specs.Answers.{writeChecks}
 
 pub front-length : (h : Head) → length (front h) ≡ 18
@@ -77,10 +76,10 @@ module _ (h : Head) (ts cs : List ℕ) (lent-terms : 4 * h .n ≤ length ts) (le
 
 module _ {A : Type 0} (answer : ℕ → ℕ → A) (good : A) (h : Head) (ts cs : List ℕ) (lent : ℕ) (r : Refusal) (told : r ≡ refusalOf (tableOf h ts cs)) where
   pub write-refused : (r .number ≡ 0 → ⊥) → answer (r .number) (r .place) ≡ checked answer good (writeChecks h ts cs lent)
-  write-refused e = table-refused answer (checked answer good (room (sizeOf h) lent ∷ [])) (tableOf h ts cs) r told e ∙ sym (checked-append answer good (tableChecks (tableOf h ts cs)) (room (sizeOf h) lent ∷ []))
+  write-refused = table-refused-first answer good (tableOf h ts cs) (room (sizeOf h) lent ∷ []) r told
 
   accepted : r .number ≡ 0 → checked answer good (room (sizeOf h) lent ∷ []) ≡ checked answer good (writeChecks h ts cs lent)
-  accepted e = table-accepted answer (checked answer good (room (sizeOf h) lent ∷ [])) (tableOf h ts cs) r told e ∙ sym (checked-append answer good (tableChecks (tableOf h ts cs)) (room (sizeOf h) lent ∷ []))
+  accepted = table-accepted-first answer good (tableOf h ts cs) (room (sizeOf h) lent ∷ []) r told
 
   pub write-short : r .number ≡ 0 → lent < sizeOf h → answer 12 (sizeOf h) ≡ checked answer good (writeChecks h ts cs lent)
   write-short e l = one-place-fails answer good (room (sizeOf h) lent) [] (omega arith) (lt-leb (sizeOf h) lent l) ∙ accepted e
