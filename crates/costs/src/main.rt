@@ -1,4 +1,4 @@
-// One call on one of three sheets, as often as asked, for counting instructions. Standard input: r, j or w (read, judge, write); s, t or l (smallest, typical, largest); a digit, how often.
+// One call on one of three sheets, or all but the call, for counting instructions: two runs that differ in the last letter differ by one call. Standard input: r, j or w (read, judge, write); s, t or l (smallest, typical, largest); 1 to make the call, 0 not to.
 use codec::SheetAnswer;
 use codec::SizeAnswer;
 use libc::STDIN_FILENO;
@@ -21,59 +21,15 @@ fn size_of(answer: SizeAnswer) -> usize {
     }
 }
 
-// Strict and lazy in turn, so that no two calls in a row are the same.
-fn turned(h: Head, turn: u8) -> Head {
-    Head {
-        evaluation: turn % 2,
-        m: h.m,
-        n: h.n,
-        k: h.k,
-    }
-}
-
-fn turn_sheet(s: &mut [u8], turn: u8) {
-    if 16 < s.len() {
-        s[16] = turn % 2;
-    }
-}
-
-fn reads(s: &mut [u8], times: u8) -> usize {
-    let mut last = 0;
-    let mut i = 0;
-    while i < times {
-        turn_sheet(s, i);
-        last = rows_of(codec::read(s));
-        i += 1;
-    }
-    last
-}
-
-fn judges(h: Head, ts: &[u8], cs: &[u8], times: u8) -> usize {
-    let mut last = 0;
-    let mut i = 0;
-    while i < times {
-        let r = judge::judge(turned(h, i), ts, cs);
-        last = r.place;
-        i += 1;
-    }
-    last
-}
-
-fn writes(h: Head, ts: &[u8], cs: &[u8], out: &mut [u8], times: u8) -> usize {
-    let mut last = 0;
-    let mut i = 0;
-    while i < times {
-        last = size_of(codec::write(turned(h, i), ts, cs, out));
-        i += 1;
-    }
-    last
-}
-
-fn reads_first(s: &mut [u8], size: usize, times: u8) -> usize {
+fn read_first(s: &[u8], size: usize) -> usize {
     if size < s.len() {
-        return reads(&mut s[..size], times);
+        return rows_of(codec::read(&s[..size]));
     }
-    reads(s, times)
+    rows_of(codec::read(s))
+}
+
+fn read_sheet(s: &[u8; 2066], size: usize) -> usize {
+    read_first(s, size)
 }
 
 fn head(m: usize, n: usize, k: usize) -> Head {
@@ -85,41 +41,38 @@ fn head(m: usize, n: usize, k: usize) -> Head {
     }
 }
 
-fn run(h: Head, ts: &[u8; 1024], cs: &[u8; 1024], call: u8, times: u8) -> usize {
+// The sheet that is read is written first, whether or not it is then read.
+fn run(h: Head, ts: &[u8; 1024], cs: &[u8; 1024], call: u8, made: bool) -> usize {
     let mut out = [0; 2066];
-    if call == b'j' {
-        return judges(h, ts, cs, times);
+    if call == b'r' {
+        let size = size_of(codec::write(h, ts, cs, &mut out));
+        if made {
+            return read_sheet(&out, size);
+        }
+        return size;
     }
-    if call == b'w' {
-        return writes(h, ts, cs, &mut out, times);
-    }
-    let size = writes(h, ts, cs, &mut out, 1);
-    read_all(&mut out, size, times)
-}
-
-fn read_all(out: &mut [u8; 2066], size: usize, times: u8) -> usize {
-    reads_first(out, size, times)
-}
-
-fn times_of(digit: u8) -> u8 {
-    if digit < b'0' {
+    if !made {
         return 0;
     }
-    digit - b'0'
+    if call == b'j' {
+        let r = judge::judge(h, ts, cs);
+        return r.place;
+    }
+    size_of(codec::write(h, ts, cs, &mut out))
 }
 
-fn answer(call: u8, which: u8, times: u8) -> usize {
+fn answer(call: u8, which: u8, made: bool) -> usize {
     let mut ts = [0; 1024];
     let mut cs = [0; 1024];
     if which == b't' {
         put_typical(&mut ts, &mut cs);
-        return run(head(3, 24, 6), &ts, &cs, call, times);
+        return run(head(3, 24, 6), &ts, &cs, call, made);
     }
     if which == b'l' {
         put_largest(&mut ts, &mut cs);
-        return run(head(64, 256, 256), &ts, &cs, call, times);
+        return run(head(64, 256, 256), &ts, &cs, call, made);
     }
-    run(head(0, 1, 0), &ts, &cs, call, times)
+    run(head(0, 1, 0), &ts, &cs, call, made)
 }
 
 fn main() {
@@ -128,7 +81,7 @@ fn main() {
     if n < 3 {
         return;
     }
-    let r = answer(buffer[0], buffer[1], times_of(buffer[2]));
-    io::print_decimal(STDOUT_FILENO, r as u64);
+    let r = answer(buffer[0], buffer[1], buffer[2] == b'1');
+    io::print_hex(STDOUT_FILENO, r as u64, 4);
     io::write_all(STDOUT_FILENO, b"\n");
 }
