@@ -1,3 +1,6 @@
 pub mod Reading
+pub mod Judged
 pub mod Parts
 pub mod Writing
+pub mod RoundTrip
+pub mod Unique

@@ -2,18 +2,13 @@
 use Prim.Native.Nat.{ℕ}
 use mathlib.Core.Path.{_≡_, sym, _∙_, ap}
 use mathlib.Core.List.{List, []}
-use native.Mathlib.Omega.{arith}
-use Rattle.laws.specs.Checks.{AllHold}
-use Rattle.laws.proofs.Checks.{checked-map, unrefused}
+use Rattle.laws.proofs.Checks.{checked-map}
 use Rattle.sheet.specs.declared.Head.{Head}
 use Rattle.sheet.specs.Sheet.{headOf, sheetChecks}
-use lib.ListN.{length}
-use lib.Dec.{leb}
-use borrow.Author.Tests.{leb-true}
-use Rattle.laws.proofs.Tests.{and-l}
 use Rattle.codec.specs.declared.SheetAnswer.{SheetAnswer}
 use Rattle.codec.specs.declared.SheetAnswer.the-variants.{Sheet, Refused}
 use Rattle.codec.specs.Answers.{readOf, partOf, Framed}
+use Rattle.codec.proofs.Judged.{lengths, accepted-is}
 
 abbrev partBy : List ℕ → SheetAnswer → List ℕ
 partBy body (Sheet h) = body
@@ -32,7 +27,4 @@ module _ (s body : List ℕ) (a : SheetAnswer) (told : a ≡ readOf s) where
 
 -- a sheet that is read has right contents
 pub read-framed : (s : List ℕ) (a : SheetAnswer) → a ≡ readOf s → (h : Head) → a ≡ Sheet h → Framed s
-unfolding readOf AllHold
-read-framed s a told h e =
-    let (x, (y, z)) = unrefused Refused (Sheet (headOf s)) (sheetChecks s) (λ n p q. let w : _≡_ {A = ℕ} 0 1 = cc in omega arith) in
-    record { long = leb-true 22 (length s) (and-l _ (leb (length s) 2066) (x 0 (omega arith) (omega arith))); sound = y }
+read-framed s a told h e = let r = accepted-is s h (sym told ∙ e) in record { long = lengths s (r .size) .0; sound = r .sound }

@@ -21,7 +21,7 @@ unfolding front
 front-length h = refl
 
 module _ (h : Head) (ts cs : List ℕ) (lent-terms : 4 * h .n ≤ length ts) (lent-conditions : 4 * h .k ≤ length cs) where
-  sheet-length : length (sheetOf h ts cs) ≡ sizeOf h
+  pub sheet-length : length (sheetOf h ts cs) ≡ sizeOf h
   unfolding sheetOf
   sheet-length =
       length-append (front h) (take (4 * h .n) ts ++ take (4 * h .k) cs) ∙

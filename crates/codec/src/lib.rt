@@ -34,7 +34,9 @@ fn two(s: &[u8], at: usize) -> usize
     requires { ⌜ (at + 2 ≤ length (now s)) × (at < 256) ⌝ }
     ensures { λ r. ⌜ (r ≡ numberAt (now (s .entry)) at) × (r < 65536) ⌝ }
 {
-    wide(s[at]) + 256 * wide(s[at + 1])
+    let low = wide(s[at]);
+    let high = wide(s[at + 1]);
+    low + 256 * high
 }
 
 fn entry_ok(s: &[u8], at: usize, kind: u8, start: usize) -> bool

@@ -5,7 +5,7 @@ use Rattle.codec.proofs.in_fours.Tie as tie
 use Rattle.codec.proofs.in_fours.Reads as reads
 use Rattle.codec.proofs.in_fours.Lts as lts
 
--- src/lib.rt:47:1
+-- src/lib.rt:49:1
 returns : tie.Need-returns
 unfolding inFours
 returns c = search needs

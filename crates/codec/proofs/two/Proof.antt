@@ -8,31 +8,31 @@ use Rattle.codec.proofs.two.Reads as reads
 use Rattle.codec.proofs.two.Lts as lts
 use Rattle.codec.proofs.wide.Reads as wide-reads
 
--- src/lib.rt:37:10
+-- src/lib.rt:37:20
 shared-slice-read-wide : tie.Need-shared-slice-read-wide
 shared-slice-read-wide c = search needs
 
--- src/lib.rt:37:5
+-- src/lib.rt:37:15
 wide-requires : tie.Need-wide-requires
 wide-requires c κs = search needs
 
--- src/lib.rt:37:32
+-- src/lib.rt:38:23
 add-wide : tie.Need-add-wide
 add-wide c = search needs
 
--- src/lib.rt:37:30
+-- src/lib.rt:38:21
 shared-slice-read-wide-2 : tie.Need-shared-slice-read-wide-2
 shared-slice-read-wide-2 c = search needs
 
--- src/lib.rt:37:25
+-- src/lib.rt:38:16
 wide-requires-2 : tie.Need-wide-requires-2
 wide-requires-2 c κs = search needs
 
--- src/lib.rt:37:19
+-- src/lib.rt:39:11
 mul-result : tie.Need-mul-result
-mul-result c = omega (arith, c .before .shared-slice-known3 .given (c .before .before .before .before .before .args .at + 1))
+mul-result c = omega (arith, c .before .shared-slice-known3 .given (c .before .before .before .before .before .args .at + 1), c .before .before .before .shared-slice-known2 .given (c .before .before .before .before .before .args .at))
 
--- src/lib.rt:37:5
+-- src/lib.rt:39:5
 add-result : tie.Need-add-result
 add-result c = omega (arith, c .before .shared-slice-known3 .given (c .before .before .before .before .before .args .at + 1), c .before .before .before .shared-slice-known2 .given (c .before .before .before .before .before .args .at))
 
