@@ -1,12 +1,23 @@
 -- What the calls answer, for every input: the first check that fails, or what is asked for.
 use Prim.Native.Nat.{ℕ}
 use mathlib.Core.List.{List, [], _∷_, _++_}
+use lib.ListN.{length}
+use mathlib.Core.Bool.{false}
 use Rattle.laws.specs.Checks.{Check, checked}
+use Rattle.laws.specs.Listed.{written}
 use Rattle.sheet.specs.Table.{Table}
 use Rattle.sheet.specs.Rules.{tableChecks}
 use Rattle.state.specs.declared.State.{State}
 use Rattle.state.specs.State.{freshOf}
-use Rattle.moves.specs.Fits.{modeCheck}
+use Rattle.sheet.specs.Sheet.{room}
+use Rattle.codec.specs.declared.SizeAnswer.{SizeAnswer}
+use Rattle.codec.specs.declared.SizeAnswer.the-variants as size
+use Rattle.state.specs.declared.StepKind.{StepKind}
+use Rattle.state.specs.declared.StepKind.the-variants as kind
+use Rattle.moves.specs.Steps.{listedOf, kindAt}
+use Rattle.moves.specs.Fits.{modeCheck, fitChecks}
+use Rattle.engine.specs.declared.Stepped.{Stepped}
+use Rattle.engine.specs.ByValue.{takenAnswer}
 use Rattle.verdict.specs.declared.Verdict.{Verdict}
 use Rattle.verdict.specs.declared.Verdict.the-variants as verdict
 use Rattle.verdict.specs.Verdict.{verdictOf}
@@ -35,3 +46,29 @@ notStarted number place = started number place (freshOf 0)
 
 unfoldable pub startAnswer : Table → ℕ → Started
 startAnswer t mode = checked notStarted (started 0 0 (freshOf mode)) (startChecks t mode)
+
+-- a call with a state: the table's checks, 9, then 10 (a) to (d)
+abbrev pub callChecks : Table → State → List Check
+callChecks t s = tableChecks t ++ (modeCheck (s .mode) ∷ fitChecks t s)
+
+-- listing: then 12
+abbrev pub listChecks : Table → State → ℕ → List Check
+listChecks t s lent = callChecks t s ++ (room (length (listedOf t s)) lent ∷ [])
+
+unfoldable pub listAnswer : Table → State → ℕ → SizeAnswer
+listAnswer t s lent = checked size.Refused (size.Size (length (listedOf t s))) (listChecks t s lent)
+
+-- "listing leave[s] bytes past [its] output unchanged"; a refusal changes nothing
+unfoldable pub listBuffer : Table → State → List ℕ → List ℕ
+listBuffer t s lent = checked (λ number place. lent) (written (listedOf t s) lent) (listChecks t s (length lent))
+
+-- the step of a row: 11 is its kind where it has none
+unfoldable pub kindAnswer : Table → State → ℕ → StepKind
+kindAnswer t s row = checked kind.Refused (kindAt t s row) (callChecks t s)
+
+-- "a state handed in by value comes back as it was"
+abbrev pub notTaken : State → ℕ → ℕ → Stepped
+notTaken s number place = record { ok = false; answer = kind.Refused number place; state = s }
+
+unfoldable pub stepAnswer : Table → State → ℕ → Stepped
+stepAnswer t s row = checked (notTaken s) (takenAnswer t s row) (callChecks t s)

@@ -1,9 +1,16 @@
 // The calls. Each judges the table it is lent, and answers for every input.
 ghost use mathlib.Core.Path.{_≡_};
 ghost use Rattle.sheet.specs.Table.{tableOf};
-ghost use Rattle.sheet_engine.specs.Answers.{verdictAnswer, startAnswer};
+ghost use Rattle.sheet.specs.Rules.{refuse};
+ghost use Rattle.laws.specs.Checks.{checked};
+ghost use lib.ListN.{length};
+ghost use Rattle.sheet_engine.specs.Answers.{verdictAnswer, startAnswer, callChecks, listAnswer, listBuffer, kindAnswer, stepAnswer};
+use codec::SizeAnswer;
+use engine::Stepped;
 use sheet::Head;
+use sheet::Refusal;
 use state::State;
+use state::StepKind;
 use verdict::Verdict;
 
 // The verdict, with the lowest JOIN row that fails, its number and its link; or number and place of the refusal.
@@ -66,4 +73,65 @@ pub fn start(h: Head, ts: &[u8], cs: &[u8], mode: u8) -> Started
         place: 0,
         state: state::fresh(mode),
     }
+}
+
+// The refusal of a table and a state.
+fn judge_state(h: Head, ts: &[u8], cs: &[u8], s: State) -> Refusal
+    ensures { λ r. ⌜ r ≡ checked refuse (refuse 0 0) (callChecks (tableOf h (now (ts .entry)) (now (cs .entry))) s) ⌝ }
+{
+    let refusal = judge::judge(h, ts, cs);
+    let number = refusal.number;
+    let place = refusal.place;
+    if number != 0 {
+        return Refusal { number, place };
+    }
+    fitting::fit(h.m, h.n, ts, s)
+}
+
+// The rows that have a step, rising, to a lent buffer, and their number; 12 with the size that is needed.
+pub fn list_steps(h: Head, ts: &[u8], cs: &[u8], s: State, out: &mut [u8]) -> SizeAnswer
+    ensures { λ r. ⌜ (r ≡ listAnswer (tableOf h (now (ts .entry)) (now (cs .entry))) s (length (now (out .entry)))) × (now (out .exit) ≡ listBuffer (tableOf h (now (ts .entry)) (now (cs .entry))) s (now (out .entry))) ⌝ }
+{
+    let refusal = judge_state(h, ts, cs, s);
+    let number = refusal.number;
+    let place = refusal.place;
+    if number != 0 {
+        return SizeAnswer::Refused(number, place);
+    }
+    let room = out.len();
+    let size = engine::list(h, ts, cs, s, out);
+    if room < size {
+        return SizeAnswer::Refused(12, size);
+    }
+    SizeAnswer::Size(size)
+}
+
+// The step of a row; 11 and the row where it has none.
+pub fn step_kind(h: Head, ts: &[u8], cs: &[u8], s: State, row: usize) -> StepKind
+    ensures { λ r. ⌜ r ≡ kindAnswer (tableOf h (now (ts .entry)) (now (cs .entry))) s row ⌝ }
+{
+    let refusal = judge_state(h, ts, cs, s);
+    let number = refusal.number;
+    let place = refusal.place;
+    if number != 0 {
+        return StepKind::Refused(number, place);
+    }
+    engine::kind(h, ts, cs, s, row)
+}
+
+// Taking the step of a row: the kind and the new state; a refusal gives the state back as it was.
+pub fn take_step(h: Head, ts: &[u8], cs: &[u8], s: State, row: usize) -> Stepped
+    ensures { λ r. ⌜ r ≡ stepAnswer (tableOf h (now (ts .entry)) (now (cs .entry))) s row ⌝ }
+{
+    let refusal = judge_state(h, ts, cs, s);
+    let number = refusal.number;
+    let place = refusal.place;
+    if number != 0 {
+        return Stepped {
+            ok: false,
+            answer: StepKind::Refused(number, place),
+            state: s,
+        };
+    }
+    engine::take(h, ts, cs, s, row)
 }

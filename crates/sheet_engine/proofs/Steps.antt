@@ -1,0 +1,111 @@
+-- The answers of the calls with a state, from what the judge, the fit and the engine say. Assumes nothing.
+use Prim.Native.Nat.{ℕ, _<_, _≤_}
+use mathlib.Core.Path.{_≡_, refl, sym, _∙_, ap}
+use mathlib.Core.Bool.{Bool, true, false, cond, _&&_, not}
+use mathlib.Core.List.{List, [], _∷_, _++_}
+use native.Mathlib.Omega.{arith}
+use lib.Dec.{eqb, ltb}
+use lib.ListN.{length}
+use borrow.Author.Tests.{le-leb, lt-leb}
+use Rattle.laws.specs.Checks.{Check, placeOf, checked}
+use Rattle.laws.specs.Listed.{written}
+use Rattle.laws.proofs.Tests.{and-r}
+use Rattle.laws.proofs.Checks.{checked-append}
+use Rattle.sheet.specs.declared.Refusal.{Refusal}
+use Rattle.sheet.specs.Table.{Table}
+use Rattle.sheet.specs.Rules.{tableChecks, refuse, refusalOf}
+use Rattle.sheet.specs.Sheet.{room}
+use Rattle.sheet.specs.Accepted.{WellFormed}
+use Rattle.sheet.proofs.Accepted.{meets, well-formed}
+use Rattle.sheet.proofs.Refusals.{numbered, refused-by, accepted-by, table-refused-first, table-accepted-first, one-place-fails, one-place-holds}
+use Rattle.codec.specs.declared.SizeAnswer.{SizeAnswer}
+use Rattle.codec.specs.declared.SizeAnswer.the-variants as size
+use Rattle.state.specs.declared.State.{State}
+use Rattle.state.specs.declared.StepKind.{StepKind}
+use Rattle.state.specs.declared.StepKind.the-variants as kind
+use Rattle.moves.specs.Steps.{listedOf, kindAt}
+use Rattle.moves.specs.Fits.{modeCheck, fitChecks}
+use Rattle.fitting.specs.Checks.{stateChecks}
+use Rattle.fitting.proofs.Fitted.{state-checks}
+use Rattle.engine.specs.declared.Stepped.{Stepped}
+use Rattle.engine.specs.ByValue.{takenAnswer}
+use Rattle.sheet_engine.specs.Answers.{callChecks, listChecks, listAnswer, listBuffer, kindAnswer, notTaken, stepAnswer}
+
+-- where none of two lists of checks fails, none of the first does
+first-accepted : (cs ds : List Check) → numbered cs ≡ true → checked refuse (refuse 0 0) (cs ++ ds) .number ≡ 0 → checked refuse (refuse 0 0) cs .number ≡ 0
+unfolding checked numbered
+first-accepted [] ds n e = refl
+first-accepted (c ∷ cs) ds n e = at (ltb (placeOf c) (c .upto)) (first-accepted cs ds (and-r (not (eqb (c .number) 0)) _ n)) e
+  where
+    at : (b : Bool) → (checked refuse (refuse 0 0) (cs ++ ds) .number ≡ 0 → checked refuse (refuse 0 0) cs .number ≡ 0) → cond b (refuse (c .number) (placeOf c)) (checked refuse (refuse 0 0) (cs ++ ds)) .number ≡ 0 → cond b (refuse (c .number) (placeOf c)) (checked refuse (refuse 0 0) cs) .number ≡ 0
+    at true ih e = e
+    at false ih e = ih e
+
+-- the table's refusal, or the state's
+module _ (t : Table) (s : State) (r : Refusal) (told : r ≡ refusalOf t) where
+  pub table-first : (r .number ≡ 0 → ⊥) → refuse (r .number) (r .place) ≡ checked refuse (refuse 0 0) (callChecks t s)
+  table-first h = table-refused-first refuse (refuse 0 0) t (modeCheck (s .mode) ∷ fitChecks t s) r told h
+
+  pub state-then : r .number ≡ 0 → (f : Refusal) → f ≡ checked refuse (refuse 0 0) (stateChecks (t .m) (t .n) (t .terms) s) → f ≡ checked refuse (refuse 0 0) (callChecks t s)
+  state-then e f g = g ∙ ap (checked refuse (refuse 0 0)) (state-checks t s) ∙ table-accepted-first refuse (refuse 0 0) t (modeCheck (s .mode) ∷ fitChecks t s) r told e
+
+-- what the call's refusal gives
+module _ (t : Table) (s : State) (r : Refusal) (told : r ≡ checked refuse (refuse 0 0) (callChecks t s)) where
+  pub refused-call : {A : Type 0} (answer : ℕ → ℕ → A) (good : A) → (r .number ≡ 0 → ⊥) → answer (r .number) (r .place) ≡ checked answer good (callChecks t s)
+  unfolding numbered
+  refused-call answer good h = rw told (refused-by answer good (callChecks t s) refl (λ e. h (rw told e)))
+
+  pub accepted-call : {A : Type 0} (answer : ℕ → ℕ → A) (good : A) → r .number ≡ 0 → good ≡ checked answer good (callChecks t s)
+  unfolding numbered
+  accepted-call answer good e = accepted-by answer good (callChecks t s) refl (rw told at e)
+
+  pub kind-refused : (row : ℕ) → (r .number ≡ 0 → ⊥) → kind.Refused (r .number) (r .place) ≡ kindAnswer t s row
+  unfolding kindAnswer
+  kind-refused row h = refused-call kind.Refused (kindAt t s row) h
+
+  pub kind-given : (row : ℕ) (k : StepKind) → r .number ≡ 0 → k ≡ kindAt t s row → k ≡ kindAnswer t s row
+  unfolding kindAnswer
+  kind-given row k e f = f ∙ accepted-call kind.Refused (kindAt t s row) e
+
+  pub step-refused : (row : ℕ) → (r .number ≡ 0 → ⊥) → notTaken s (r .number) (r .place) ≡ stepAnswer t s row
+  unfolding stepAnswer
+  step-refused row h = refused-call (notTaken s) (takenAnswer t s row) h
+
+  pub step-given : (row : ℕ) (k : Stepped) → r .number ≡ 0 → k ≡ takenAnswer t s row → k ≡ stepAnswer t s row
+  unfolding stepAnswer
+  step-given row k e f = f ∙ accepted-call (notTaken s) (takenAnswer t s row) e
+
+  -- listing
+  abbrev need : ℕ
+  need = length (listedOf t s)
+
+  pub list-refused : (lent : List ℕ) → (r .number ≡ 0 → ⊥) → (size.Refused (r .number) (r .place) ≡ listAnswer t s (length lent)) × (lent ≡ listBuffer t s lent)
+  unfolding listAnswer listBuffer
+  list-refused lent h = (
+    refused-call size.Refused (checked size.Refused (size.Size need) (room need (length lent) ∷ [])) h ∙ sym (checked-append size.Refused (size.Size need) (callChecks t s) (room need (length lent) ∷ [])),
+    refused-call (λ number place. lent) (checked (λ number place. lent) (written (listedOf t s) lent) (room need (length lent) ∷ [])) h ∙ sym (checked-append (λ number place. lent) (written (listedOf t s) lent) (callChecks t s) (room need (length lent) ∷ [])),
+  )
+
+  after : {A : Type 0} (answer : ℕ → ℕ → A) (good : A) (c : Check) → r .number ≡ 0 → checked answer good (c ∷ []) ≡ checked answer good (callChecks t s ++ (c ∷ []))
+  after answer good c e = accepted-call answer (checked answer good (c ∷ [])) e ∙ sym (checked-append answer good (callChecks t s) (c ∷ []))
+
+  pub list-short : (lent out : List ℕ) (n : ℕ) → r .number ≡ 0 → n ≡ need → out ≡ written (listedOf t s) lent → length lent < n → (size.Refused 12 n ≡ listAnswer t s (length lent)) × (out ≡ listBuffer t s lent)
+  unfolding listAnswer listBuffer written
+  list-short lent out n e f g h =
+      let w : length lent < need = omega arith in (
+        ap (size.Refused 12) f ∙ (one-place-fails size.Refused (size.Size need) (room need (length lent)) [] (omega arith) (lt-leb need (length lent) w) ∙ after size.Refused (size.Size need) (room need (length lent)) e),
+        g ∙ (rw (lt-leb need (length lent) w) refl ∙ (one-place-fails (λ number place. lent) (written (listedOf t s) lent) (room need (length lent)) [] (omega arith) (lt-leb need (length lent) w) ∙ after (λ number place. lent) (written (listedOf t s) lent) (room need (length lent)) e)),
+      )
+
+  pub list-given : (lent out : List ℕ) (n : ℕ) → r .number ≡ 0 → n ≡ need → out ≡ written (listedOf t s) lent → n ≤ length lent → (size.Size n ≡ listAnswer t s (length lent)) × (out ≡ listBuffer t s lent)
+  unfolding listAnswer listBuffer checked
+  list-given lent out n e f g h =
+      let w : need ≤ length lent = omega arith in (
+        ap size.Size f ∙ (one-place-holds size.Refused (size.Size need) (room need (length lent)) [] refl (le-leb need (length lent) w) ∙ after size.Refused (size.Size need) (room need (length lent)) e),
+        g ∙ (one-place-holds (λ number place. lent) (written (listedOf t s) lent) (room need (length lent)) [] refl (le-leb need (length lent) w) ∙ after (λ number place. lent) (written (listedOf t s) lent) (room need (length lent)) e),
+      )
+
+-- an accepted call's table is well formed
+pub call-formed : (t : Table) (s : State) (r : Refusal) → r ≡ checked refuse (refuse 0 0) (callChecks t s) → r .number ≡ 0 → WellFormed t
+unfolding refusalOf numbered
+call-formed t s r told e = well-formed t (meets t (first-accepted (tableChecks t) (modeCheck (s .mode) ∷ fitChecks t s) refl (ap (λ (r : Refusal). r .number) (sym told) ∙ e)))
