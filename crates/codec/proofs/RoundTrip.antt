@@ -20,9 +20,10 @@ use Rattle.sheet.proofs.Accepted.{Meets, meets, well-formed}
 use Rattle.sheet.proofs.Beyond.{cut, cut-meets, meets-accepted}
 use Rattle.codec.specs.declared.SheetAnswer.the-variants as sheet
 use Rattle.codec.specs.declared.SizeAnswer.the-variants as size
-use Rattle.codec.specs.Answers.{readOf, writeOf, writtenOf}
+use Rattle.codec.specs.Answers.{readOf, partOf, writeOf, writtenOf}
 use Rattle.codec.proofs.Reading.{contents-right, Bodies, bodies}
 use Rattle.codec.proofs.Judged.{lengths, accepted-is, is-accepted}
+use Rattle.codec.proofs.Parts.{part-whole}
 use Rattle.codec.proofs.Writing.{front-length, sheet-length, write-whole}
 
 -- READING AND THEN WRITING GIVES THE BYTES. The first 18 are told by the contents ...
@@ -210,6 +211,12 @@ module _ (h : Head) (ts cs : List ℕ) (accepted : refusalOf (tableOf h ts cs) .
   read-of-sheet = is-accepted s h (record { size = sized-right; sound = sound; table = table-back; head = sym head-back })
 
   -- in the words of the calls
+  pub terms-handed : partOf s (termsOf s) ≡ rows
+  terms-handed = sym (part-whole s (termsOf s) (readOf s) refl h read-of-sheet) ∙ terms-back
+
+  pub conditions-handed : partOf s (conditionsOf s) ≡ condition-rows
+  conditions-handed = sym (part-whole s (conditionsOf s) (readOf s) refl h read-of-sheet) ∙ conditions-back
+
   module _ (out : List ℕ) (fits : sizeOf h ≤ length out) where
     pub size-told : writeOf h ts cs (length out) ≡ size.Size (sizeOf h)
     unfolding writeOf

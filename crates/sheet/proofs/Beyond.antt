@@ -1,6 +1,6 @@
 -- "Places beyond these are no part of it": an accepted table stays accepted where its slices end at row n and row k. Assumes nothing.
-use Prim.Native.Nat.{ℕ, _+_, _*_, _<_, _≤_}
-use mathlib.Core.Path.{_≡_, refl, sym, _∙_, ap}
+use Prim.Native.Nat.{ℕ, _+_, _*_, _<_}
+use mathlib.Core.Path.{_≡_, refl, _∙_, ap}
 use mathlib.Core.Bool.{true, false, cond}
 use mathlib.Core.List.{List}
 use native.Mathlib.Omega.{arith}
@@ -19,7 +19,6 @@ use Rattle.conditions.specs.Numbers.{linksOf}
 use Rattle.steps.specs.Rows.{Row, NIL, PREFIX, BRANCH, isSource}
 use Rattle.sheet.specs.Table.{Table, rowAt, conditionRowAt}
 use Rattle.sheet.specs.Rules.{sized, conditionOk, termOk, namings, timesNamed, sources, narrowPrefix, narrowRow, tableChecks}
-use Rattle.sheet.specs.Accepted.{WellFormed}
 use Rattle.sheet.proofs.Rows.{PrefixOk, RowOk, term-row}
 use Rattle.sheet.proofs.Accepted.{Meets, well-formed}
 

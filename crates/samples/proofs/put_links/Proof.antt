@@ -1,5 +1,4 @@
 use Prim.Native.Nat.{_-_}
-use native.Mathlib.Omega.{arith}
 use borrow.Author.Needs.{needs}
 use Rattle.samples.proofs.put_links.Statement.{statement}
 use Rattle.samples.proofs.put_links.Tie as tie
