@@ -28,9 +28,14 @@ fn answer(call: u8, h: Head, ts: &[u8], cs: &[u8]) -> VerdictAnswer {
 }
 
 fn judge_sheet(call: u8, s: &[u8]) {
-    match codec::read(s) {
+    match sheet_engine::read_sheet(s) {
         SheetAnswer::Sheet(h) => {
-            say(answer(call, h, codec::terms(s), codec::conditions(s)));
+            say(answer(
+                call,
+                h,
+                sheet_engine::terms_part(s),
+                sheet_engine::conditions_part(s),
+            ));
         }
         SheetAnswer::Refused(number, place) => {
             say(VerdictAnswer::Refused(number, place));
