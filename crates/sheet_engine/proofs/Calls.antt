@@ -1,6 +1,6 @@
 -- What a judged table gives to the calls, and the answers of each. Assumes nothing.
 use Prim.Native.Nat.{ℕ, _<_, _≤_}
-use mathlib.Core.Path.{_≡_, refl, sym, _∙_, ap}
+use mathlib.Core.Path.{_≡_, sym, _∙_, ap}
 use mathlib.Core.List.{[], _∷_}
 use native.Mathlib.Omega.{arith}
 use borrow.Author.Tests.{le-leb, lt-leb}
@@ -16,9 +16,7 @@ use Rattle.moves.specs.Fits.{modeCheck}
 use Rattle.verdict.specs.declared.Verdict.{Verdict}
 use Rattle.verdict.specs.declared.Verdict.the-variants as verdict
 use Rattle.verdict.specs.Verdict.{verdictOf, Judged}
-use Rattle.sheet_engine.specs.declared.VerdictAnswer.{VerdictAnswer}
 use Rattle.sheet_engine.specs.declared.VerdictAnswer.the-variants.{Pass, Fail, Refused}
-use Rattle.sheet_engine.specs.declared.Started.{Started}
 use Rattle.sheet_engine.specs.Answers.{given, verdictAnswer, started, notStarted, startAnswer}
 
 -- ACCEPTANCE gives what the verdict rests on

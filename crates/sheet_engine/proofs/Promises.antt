@@ -1,7 +1,6 @@
 -- WHAT A CALLER MAY RELY ON: from the answers, and from the contract of the call that gives them. Assumes nothing.
 use Prim.Native.Nat.{ℕ, _<_, _≤_}
-use mathlib.Core.Path.{_≡_, refl, sym, _∙_, ap}
-use mathlib.Core.Bool.{Bool, true, false, true≢false}
+use mathlib.Core.Path.{_≡_, refl, sym, _∙_, ap, subst}
 use mathlib.Core.Logic.{by-cases, _↔_}
 use native.Mathlib.Omega.{arith}
 use native.Mathlib.Decide.{decLt, ℕ-discrete}
@@ -10,10 +9,14 @@ use borrow.Fn.Kinds.{endedOf}
 use contract.Lifetimes.{Lfts}
 use denote.Triple.Clauses.{AtExit}
 use denote.Ref.{now}
+use Rattle.laws.specs.Checks.{checked}
+use Rattle.laws.proofs.Checks.{checked-map}
 use Rattle.steps.specs.Verdict.{SheetPasses}
 use Rattle.sheet.specs.Table.{Table, tableOf, rowAt, evalIn}
-use Rattle.sheet.specs.Rules.{refusalOf}
+use Rattle.sheet.specs.declared.Refusal.{Refusal}
+use Rattle.sheet.specs.Rules.{tableChecks, refuse, refusalOf}
 use Rattle.sheet.proofs.Accepted.{meets, well-formed, single-source}
+use Rattle.failure.specs.Failure.{numberAt, linkAt}
 use Rattle.state.specs.State.{freshOf}
 use Rattle.moves.specs.Fits.{Fits}
 use Rattle.moves.specs.Runs.{Demand3}
@@ -21,26 +24,38 @@ use Rattle.moves.proofs.Fits.{fresh-fits}
 use Rattle.moves.proofs.Demand.{demand-3}
 use Rattle.verdict.specs.declared.Verdict.{Verdict}
 use Rattle.verdict.specs.declared.Verdict.the-variants as verdict
-use Rattle.verdict.specs.Verdict.{verdictOf}
-use Rattle.verdict.proofs.Exactly.{pass-exactly}
+use Rattle.verdict.specs.Verdict.{conditionOf, failing, verdictOf}
+use Rattle.verdict.proofs.Joins.{verdict-pass}
+use Rattle.verdict.proofs.Exactly.{pass-exactly, fail-is-given, fail-is-join, fail-lowest-row, fail-offends, fail-smallest, fail-lowest}
 use Rattle.sheet_engine.specs.declared.VerdictAnswer.{VerdictAnswer}
 use Rattle.sheet_engine.specs.declared.VerdictAnswer.the-variants.{Pass, Fail, Refused}
 use Rattle.sheet_engine.specs.declared.Started.{Started}
 use Rattle.sheet_engine.specs.Answers.{given, verdictAnswer, startAnswer}
+use Rattle.sheet_engine.specs.Values.{verdictValues, FailsAt}
 use Rattle.sheet_engine.proofs.give_verdict as give-verdict
 use Rattle.sheet_engine.proofs.give_verdict.Reads as reads
 use Rattle.sheet_engine.proofs.give_verdict.Kinds as kinds
-use Rattle.sheet_engine.proofs.Calls.{accepted-judged, verdict-refused, verdict-given, pass-given, start-refused, start-bad-mode, start-fresh}
+use Rattle.sheet_engine.proofs.Calls.{accepted-judged, verdict-given, pass-given, fail-given, start-refused, start-bad-mode, start-fresh}
 
-abbrev passes : VerdictAnswer → Bool
-passes Pass = true
-passes (Fail row number link) = false
-passes (Refused number place) = false
+-- the values of an answer
+abbrev refusalIn : VerdictAnswer → ℕ
+refusalIn a = verdictValues a .refusal
+
+abbrev placeIn : VerdictAnswer → ℕ
+placeIn a = verdictValues a .place
+
+abbrev failsIn : VerdictAnswer → ℕ
+failsIn a = verdictValues a .fails
+
+given-unrefused : (v : Verdict) → (refusalIn (given v) ≡ 0) × (placeIn (given v) ≡ 0)
+unfolding given
+given-unrefused verdict.Pass = (refl, refl)
+given-unrefused (verdict.Fail row number link) = (refl, refl)
 
 given-pass : (v : Verdict) → given v ≡ Pass → v ≡ verdict.Pass
 unfolding given
 given-pass verdict.Pass e = refl
-given-pass (verdict.Fail row number link) e = absurd (true≢false (sym (ap passes e)))
+given-pass (verdict.Fail row number link) e = absurd (let z : 1 ≡ 0 = ap failsIn e in omega arith)
 
 abbrev numberOf : Started → ℕ
 numberOf r = r .number
@@ -50,16 +65,23 @@ module _ (t : Table) where
   abbrev pub Accepted : Type 0
   Accepted = refusalOf t .number ≡ 0
 
-  pass-accepted : verdictAnswer t ≡ Pass → Accepted
-  pass-accepted v =
-      by-cases (ℕ-discrete (refusalOf t .number) 0) (λ e. e)
-      (λ h. absurd (true≢false (sym (ap passes (verdict-refused t (refusalOf t) refl h ∙ v)))))
+  -- A REFUSAL IS ANSWERED exactly as the table's, number and place; 0 and 0 where it is accepted.
+  pub refusal-answered : (verdictValues (verdictAnswer t) .refusal ≡ refusalOf t .number) × (verdictValues (verdictAnswer t) .place ≡ refusalOf t .place)
+  unfolding verdictAnswer refusalOf
+  refusal-answered =
+      let (n, p) = given-unrefused (verdictOf t) in (
+        checked-map refusalIn Refused (given (verdictOf t)) (tableChecks t) ∙ (ap (λ (x : ℕ). checked (λ n p. n) x (tableChecks t)) n ∙ sym (checked-map (λ (r : Refusal). r .number) refuse (refuse 0 0) (tableChecks t))),
+        checked-map placeIn Refused (given (verdictOf t)) (tableChecks t) ∙ (ap (λ (x : ℕ). checked (λ n p. p) x (tableChecks t)) p ∙ sym (checked-map (λ (r : Refusal). r .place) refuse (refuse 0 0) (tableChecks t))),
+      )
+
+  told-accepted : (a : VerdictAnswer) → verdictAnswer t ≡ a → refusalIn a ≡ 0 → Accepted
+  told-accepted a v z = sym (refusal-answered .0) ∙ (ap refusalIn v ∙ z)
 
   -- PASS IS ANSWERED exactly if the table is accepted and the condition of every JOIN row meets R's condition (2).
   pub pass-answered : (verdictAnswer t ≡ Pass) ↔ (Accepted × SheetPasses (evalIn t) (rowAt (t .terms)) (t .n))
   pass-answered = (
     (λ v.
-        let e = pass-accepted v in
+        let e = told-accepted Pass v refl in
         (e, pass-exactly t (accepted-judged t e) .0 (given-pass (verdictOf t) (verdict-given t (refusalOf t) refl e (verdictOf t) refl ∙ v)))),
     (λ (e, s). sym (pass-given t (refusalOf t) refl e (verdictOf t) refl (pass-exactly t (accepted-judged t e) .1 s))),
   )
@@ -70,6 +92,38 @@ module _ (t : Table) where
       let (e, s) = pass-answered .0 v in
       let g = meets t e in
       demand-3 t (well-formed t g) (single-source t g) s
+
+  -- FAIL IS ANSWERED exactly if the table is accepted and the condition of some JOIN row does not meet (2) ...
+  fail-at : Accepted → failing t < t .n → verdictAnswer t ≡ Fail (failing t) (numberAt (t .evaluation) (t .m) (t .conditions) (conditionOf (rowAt (t .terms) (failing t)))) (linkAt (t .evaluation) (t .m) (t .conditions) (conditionOf (rowAt (t .terms) (failing t))))
+  fail-at e h = sym (fail-given t (refusalOf t) refl e (verdictOf t) refl _ _ _ (fail-is-given t (accepted-judged t e) h))
+
+  pub fail-answered : ((j : ℕ) × (x : ℕ) × (l : ℕ) × (verdictAnswer t ≡ Fail j x l)) ↔ (Accepted × (SheetPasses (evalIn t) (rowAt (t .terms)) (t .n) → ⊥))
+  fail-answered = (
+    (λ (j, x, l, v).
+        let e = told-accepted (Fail j x l) v refl in
+        (e, (λ s. let z : _≡_ {A = ℕ} 0 1 = ap failsIn (sym (pass-answered .1 (e, s)) ∙ v) in omega arith))),
+    (λ (e, h). by-cases (decLt (failing t) (t .n)) (λ g. (failing t, _, _, fail-at e g)) (λ g. absurd (h (pass-exactly t (accepted-judged t e) .0 (sym (verdict-pass t (failing t) (omega arith) refl)))))),
+  )
+
+  -- ... and then row, number and link are those that document 01 names
+  pub fail-values : (j x l : ℕ) → verdictAnswer t ≡ Fail j x l → FailsAt t j x l
+  fail-values j x l v =
+      let (e, h) = fail-answered .0 (j, x, l, v) in
+      let g = accepted-judged t e in
+      by-cases (decLt (failing t) (t .n))
+      (λ b.
+      let (d, is) = fail-is-join t g b in
+      subst (λ (a : VerdictAnswer). FailsAt t (verdictValues a .row) (verdictValues a .number) (verdictValues a .link)) (sym (fail-at e b) ∙ v) record {
+        condition = conditionOf (rowAt (t .terms) (failing t));
+        child = d;
+        inside = b;
+        is-join = is;
+        lower-rows-pass = fail-lowest-row t g b;
+        offends = fail-offends t g b;
+        smallest = fail-smallest t g b;
+        lowest = fail-lowest t g b;
+      })
+      (λ b. absurd (h (pass-exactly t g .0 (sym (verdict-pass t (failing t) (omega arith) refl)))))
 
   module _ (mode : ℕ) where
     start-accepted : startAnswer t mode .number ≡ 0 → Accepted

@@ -1,10 +1,13 @@
-// The calls. Each judges the table it is lent, and answers for every input.
+// The calls. Each judges the sheet or table that it is lent, and answers for every input.
 ghost use mathlib.Core.Path.{_≡_};
-ghost use Rattle.sheet.specs.Table.{tableOf};
-ghost use Rattle.sheet.specs.Rules.{refuse};
-ghost use Rattle.laws.specs.Checks.{checked};
 ghost use lib.ListN.{length};
+ghost use Rattle.sheet.specs.Table.{tableOf};
+ghost use Rattle.laws.specs.Checks.{checked};
+ghost use Rattle.sheet.specs.Rules.{refuse, refusalOf};
+ghost use Rattle.sheet.specs.Sheet.{settingsOf, termsOf, conditionsOf};
+ghost use Rattle.codec.specs.Answers.{readOf, partOf, writeOf, writtenOf};
 ghost use Rattle.sheet_engine.specs.Answers.{verdictAnswer, startAnswer, callChecks, listAnswer, listBuffer, kindAnswer, stepAnswer};
+use codec::SheetAnswer;
 use codec::SizeAnswer;
 use engine::Stepped;
 use sheet::Head;
@@ -29,6 +32,46 @@ pub struct Started {
     pub number: u8,
     pub place: usize,
     pub state: State,
+}
+
+// The head of a sheet.
+pub fn read_sheet(s: &[u8]) -> SheetAnswer
+    ensures { λ r. ⌜ r ≡ readOf (now (s .entry)) ⌝ }
+{
+    codec::read(s)
+}
+
+// The bodies of a sheet, parts of the lent bytes; empty where the sheet is refused.
+pub fn settings_part(s: &[u8]) -> &[u8]
+    ensures { λ r. ⌜ now r ≡ partOf (now (s .entry)) (settingsOf (now (s .entry))) ⌝ }
+{
+    codec::settings(s)
+}
+
+pub fn terms_part(s: &[u8]) -> &[u8]
+    ensures { λ r. ⌜ now r ≡ partOf (now (s .entry)) (termsOf (now (s .entry))) ⌝ }
+{
+    codec::terms(s)
+}
+
+pub fn conditions_part(s: &[u8]) -> &[u8]
+    ensures { λ r. ⌜ now r ≡ partOf (now (s .entry)) (conditionsOf (now (s .entry))) ⌝ }
+{
+    codec::conditions(s)
+}
+
+// The refusal of a table; 0 and 0 where it is accepted.
+pub fn judge_table(h: Head, ts: &[u8], cs: &[u8]) -> Refusal
+    ensures { λ r. ⌜ r ≡ refusalOf (tableOf h (now (ts .entry)) (now (cs .entry))) ⌝ }
+{
+    judge::judge(h, ts, cs)
+}
+
+// The bytes of a table.
+pub fn write_sheet(h: Head, ts: &[u8], cs: &[u8], out: &mut [u8]) -> SizeAnswer
+    ensures { λ r. ⌜ (r ≡ writeOf h (now (ts .entry)) (now (cs .entry)) (length (now (out .entry)))) × (now (out .exit) ≡ writtenOf h (now (ts .entry)) (now (cs .entry)) (now (out .entry))) ⌝ }
+{
+    codec::write(h, ts, cs, out)
 }
 
 // The verdict of a table.

@@ -7,31 +7,31 @@ use Rattle.sheet_engine.proofs.start.Lts as lts
 use Rattle.judge.proofs.judge.Reads as judge-reads
 use Rattle.state.proofs.fresh.Reads as fresh-reads
 
--- src/lib.rt:47:9
+-- src/lib.rt:94:9
 judge-requires : tie.Need-judge-requires
 judge-requires c κs = search needs
 
--- src/lib.rt:54:20
+-- src/lib.rt:101:20
 fresh-requires : tie.Need-fresh-requires
 fresh-requires c κs = search needs
 
--- src/lib.rt:51:9
+-- src/lib.rt:98:9
 returns : tie.Need-returns
 returns c = start-refused _ _ (c .before .before .judge .ensures) _ (c .fresh .result) (c .before .if1 .taken) (c .fresh .ensures .0)
 
--- src/lib.rt:61:20
+-- src/lib.rt:108:20
 fresh-requires-2 : tie.Need-fresh-requires-2
 fresh-requires-2 c κs = search needs
 
--- src/lib.rt:58:9
+-- src/lib.rt:105:9
 returns-2 : tie.Need-returns-2
 returns-2 c = start-bad-mode _ _ (c .before .before .before .judge .ensures) _ (c .fresh2 .result) (c .before .before .if1 .left) (c .before .if2 .taken) (c .fresh2 .ensures .0)
 
--- src/lib.rt:67:16
+-- src/lib.rt:114:16
 fresh-requires-3 : tie.Need-fresh-requires-3
 fresh-requires-3 c κs = search needs
 
--- src/lib.rt:44:1
+-- src/lib.rt:91:1
 returns-3 : tie.Need-returns-3
 returns-3 c = start-fresh _ _ (c .before .before .before .judge .ensures) _ (c .fresh3 .result) (c .before .before .if1 .left) (c .before .if2 .left) (c .fresh3 .ensures .0)
 
