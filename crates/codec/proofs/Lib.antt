@@ -3,4 +3,3 @@ pub mod Judged
 pub mod Parts
 pub mod Writing
 pub mod RoundTrip
-pub mod Unique
