@@ -18,7 +18,7 @@ use Rattle.laws.specs.Up.{Filled}
 use Rattle.laws.proofs.Up.{below-in}
 use Rattle.calculus.specs.Process.{act, out, join, pick, flow}
 use Rattle.calculus.specs.Status.{Value, Unset, False, True, Links}
-use Rattle.calculus.specs.Places.{Turn, takes, drops, plain, cleaning, cleans, own}
+use Rattle.calculus.specs.Places.{Turn, takes, drops, cleans, own}
 use Rattle.calculus.specs.Steps.{joinTurn, turnOf}
 use Rattle.conditions.specs.Numbers.{digit}
 use Rattle.steps.specs.Rows.{Row, NIL, PREFIX, BRANCH, firstOf, isSource, Kids}
@@ -153,14 +153,6 @@ from-passed ts n mode μ seen f r h = rw (h, and-false (ltb r n && seen r)) refl
 pub from-front : (ts : List ℕ) (n mode : ℕ) (μ : Marks) (seen : ℕ → Bool) (f : ℕ → ℕ) (r : ℕ) → r < n → seen r ≡ true → waitingStep (rowAt ts r) (μ r) ≡ true → rowKind r mode (rowAt ts r) f ≡ kindFrom ts n mode μ seen f r
 unfolding kindFrom
 from-front ts n mode μ seen f r h e g = rw (lt-ltb r n h, e, g) refl
-
-pub cleans-by : (m : ℕ) → eqb m 1 ≡ cleans (modeOf m)
-unfolding modeOf cleans
-cleans-by m = at (eqb m 1)
-  where
-    at : (b : Bool) → b ≡ cleans (cond b cleaning plain)
-    at true = refl
-    at false = refl
 
 -- what a step needs: its row is one of the sheet's, its link is below 64, a JOIN has a child
 kind-inside : (t : Table) (s : State) (r : ℕ) → isStep (kindAt t s r) ≡ true → r < t .n

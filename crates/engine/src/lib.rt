@@ -6,10 +6,9 @@ ghost use lib.Dec.{eqb};
 ghost use lib.ListN.{length, getD, drop};
 ghost use Rattle.laws.specs.Tests.{bit};
 ghost use Rattle.laws.specs.Listed.{listed, written};
-ghost use Rattle.calculus.specs.Places.{cleans};
 ghost use Rattle.sheet.specs.Table.{tableOf, rowAt};
 ghost use Rattle.sheet.specs.Accepted.{WellFormed};
-ghost use Rattle.moves.specs.Steps.{modeOf, kindAt, listedOf};
+ghost use Rattle.moves.specs.Steps.{kindAt, listedOf};
 ghost use Rattle.engine.specs.ByValue.{joinKind, rowKind, kindFrom, isStep, stepFrom, takenAnswer};
 use sheet::Head;
 use state::State;
@@ -22,12 +21,6 @@ pub struct Stepped {
     pub state: State,
 }
 
-fn cleans(mode: u8) -> bool
-    ensures { λ r. ⌜ r ≡ cleans (modeOf mode) ⌝ }
-{
-    mode == 1
-}
-
 // A JOIN in front, by the value of its condition.
 fn join_kind(row: usize, mode: u8, value: u8) -> StepKind
     ensures { λ r. ⌜ r ≡ joinKind row mode value ⌝ }
@@ -35,7 +28,7 @@ fn join_kind(row: usize, mode: u8, value: u8) -> StepKind
     if value == 2 {
         return StepKind::Open;
     }
-    if (value == 1) & cleans(mode) {
+    if (value == 1) & front::cleans(mode) {
         return StepKind::Clean;
     }
     StepKind::Refused(11, row)

@@ -7,32 +7,19 @@ use native.Mathlib.Omega.{arith}
 use lib.Dec.{eqb}
 use lib.ListN.{length, getD}
 use Rattle.laws.specs.Tests.{or}
+use Rattle.laws.proofs.Tests.{or-is}
 use Rattle.calculus.specs.Process.{act, join, pick, flow}
-use Rattle.calculus.specs.Places.{Mode, plain, cleaning, cleans}
+use Rattle.calculus.specs.Places.{Mode}
 use Rattle.steps.specs.Rows.{Row, NIL, PREFIX, BRANCH}
 use Rattle.steps.specs.Marks.{standBy, stand, openBy, open-branches}
 use Rattle.steps.specs.InFront.{waitsBy, undecided, waiting}
 use Rattle.sheet.specs.Table.{rowBy}
-use Rattle.moves.specs.Steps.{modeOf}
 use Rattle.moves.specs.Fits.{suitsBranch, suits, clearPrefix, clearRow}
-
-pub cleaning-mode : (x : ℕ) → eqb x 1 ≡ cleans (modeOf x)
-unfolding modeOf cleans
-cleaning-mode x = at (eqb x 1)
-  where
-    at : (b : Bool) → b ≡ cleans (cond b cleaning plain)
-    at true = refl
-    at false = refl
-
-pub or-bars : (a b : Bool) → a || b ≡ or a b
-unfolding or
-or-bars true b = refl
-or-bars false b = refl
 
 pub or-bars-two : (a b c : Bool) → a || (b || c) ≡ or a (or b c)
 unfolding or
 or-bars-two true b c = refl
-or-bars-two false b c = or-bars b c
+or-bars-two false b c = or-is b c
 
 -- a row that is no ACT, OUT, JOIN or PICK
 rest-is : (kind a b c : ℕ) → eqb kind 1 ≡ false → eqb kind 2 ≡ false → eqb kind 3 ≡ false → eqb kind 4 ≡ false → (C : Row → Type 0) → C NIL → C (BRANCH flow a b) → C (rowBy kind a b c)

@@ -6,7 +6,6 @@ ghost use lib.Dec.{eqb, ltb, leb};
 ghost use lib.ListN.{length, getD};
 ghost use Rattle.laws.specs.Tests.{or};
 ghost use Rattle.laws.specs.Checks.{placeOf, checked};
-ghost use Rattle.calculus.specs.Places.{cleans};
 ghost use Rattle.steps.specs.Rows.{Tree};
 ghost use Rattle.steps.specs.InFront.{waiting};
 ghost use Rattle.sheet.specs.Table.{rowAt};
@@ -23,13 +22,6 @@ fn wide(x: u8) -> usize
     x as usize
 }
 
-// A JOIN may be dropped.
-fn cleaning(mode: u8) -> bool
-    ensures { λ r. ⌜ r ≡ cleans (modeOf mode) ⌝ }
-{
-    mode == 1
-}
-
 // (a) the mark suits its row and the mode.
 fn suits(mode: u8, ts: &[u8], row: usize, mark: u8) -> bool
     requires { ⌜ row * 4 + 4 ≤ length (now ts) ⌝ }
@@ -38,7 +30,7 @@ fn suits(mode: u8, ts: &[u8], row: usize, mark: u8) -> bool
     match ts[row * 4] {
         1 => mark <= 1,
         2 => mark <= 1,
-        3 => (mark <= 1) | ((mark == 4) & cleaning(mode)),
+        3 => (mark <= 1) | ((mark == 4) & front::cleans(mode)),
         4 => (mark == 0) | ((mark == 2) | (mark == 3)),
         _ => mark == 0,
     }

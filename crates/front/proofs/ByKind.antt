@@ -1,4 +1,4 @@
--- What the tests of a row are, by the kind in its bytes. Assumes nothing.
+-- What the tests of a row are, by the kind in its bytes, and of a mode. Assumes nothing.
 use Prim.Native.Nat.{ℕ}
 use mathlib.Core.Path.{_≡_, refl}
 use mathlib.Core.Bool.{Bool, true, false, cond, _&&_, _||_, not}
@@ -6,10 +6,12 @@ use lib.Dec.{eqb}
 use borrow.Author.Tests.{eqb-true, eq-eqb, ne-eqb}
 use Rattle.laws.proofs.Tests.{or-is}
 use Rattle.calculus.specs.Process.{pick, flow}
+use Rattle.calculus.specs.Places.{plain, cleaning, cleans}
 use Rattle.steps.specs.Rows.{Row, NIL, BRANCH}
 use Rattle.steps.specs.Marks.{standBy, stand}
 use Rattle.steps.specs.InFront.{waitsBy, passedBy, waitingStep, leads}
 use Rattle.sheet.specs.Table.{rowBy}
+use Rattle.moves.specs.Steps.{modeOf}
 use Rattle.moves.specs.Fits.{keepsBy, keeps}
 use Rattle.front.specs.Asked.{nextOf}
 
@@ -74,3 +76,11 @@ next-held q m N s b e = rw (e, or-is b (waitingStep N m)) refl
 pub next-live : (q m : ℕ) (N : Row) (s b : Bool) → (q ≡ 0 → ⊥) → (q ≡ 1 → ⊥) → b && keeps N m s ≡ nextOf q N m s b
 unfolding nextOf
 next-live q m N s b e f = rw (ne-eqb q 0 e, ne-eqb q 1 f) refl
+
+pub cleans-by : (m : ℕ) → eqb m 1 ≡ cleans (modeOf m)
+unfolding modeOf cleans
+cleans-by m = at (eqb m 1)
+  where
+    at : (b : Bool) → b ≡ cleans (cond b cleaning plain)
+    at true = refl
+    at false = refl

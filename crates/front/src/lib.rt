@@ -6,11 +6,13 @@ ghost use mathlib.Core.Bool.{_&&_, not};
 ghost use lib.Dec.{eqb};
 ghost use Rattle.laws.specs.Tests.{bit};
 ghost use Rattle.calculus.specs.Process.{pick};
+ghost use Rattle.calculus.specs.Places.{cleans};
 ghost use Rattle.steps.specs.Rows.{Tree};
 ghost use Rattle.steps.specs.Marks.{open-branches};
 ghost use Rattle.steps.specs.InFront.{waitingStep, opens, leads};
 ghost use Rattle.steps.specs.Push.{setIf, handed};
 ghost use Rattle.sheet.specs.Table.{rowAt};
+ghost use Rattle.moves.specs.Steps.{modeOf};
 ghost use Rattle.moves.specs.Fits.{keeps};
 ghost use Rattle.front.specs.Asked.{nextOf, topOf, askedAt, Shows};
 
@@ -20,6 +22,13 @@ pub const REACHED: u8 = 0;
 pub const HELD: u8 = 1;
 
 pub const LIVE: u8 = 2;
+
+// The mode drops a JOIN whose condition is false.
+pub fn cleans(mode: u8) -> bool
+    ensures { λ r. ⌜ r ≡ cleans (modeOf mode) ⌝ }
+{
+    mode == 1
+}
 
 // A branch of a PICK is open.
 fn opens(mark: u8, right: bool) -> bool

@@ -119,32 +119,35 @@ fn read_small(name: &[u8], s: &[u8; 22]) {
     read(name, s);
 }
 
+// The smallest sheet.
+const SMALLEST: [u8; 22] = [
+    3,
+    1,
+    16,
+    0,
+    2,
+    0,
+    2,
+    18,
+    0,
+    4,
+    0,
+    3,
+    22,
+    0,
+    0,
+    0,
+    0,
+    0,
+    0,
+    0,
+    0,
+    0,
+];
+
 // The smallest sheet with one byte changed.
 fn changed(name: &[u8], at: usize, x: u8) {
-    let mut s = [
-        3,
-        1,
-        16,
-        0,
-        2,
-        0,
-        2,
-        18,
-        0,
-        4,
-        0,
-        3,
-        22,
-        0,
-        0,
-        0,
-        0,
-        0,
-        0,
-        0,
-        0,
-        0,
-    ];
+    let mut s = SMALLEST;
     if at < 22 {
         s[at] = x;
     }
@@ -153,30 +156,7 @@ fn changed(name: &[u8], at: usize, x: u8) {
 
 // 1 to 3, of a sheet.
 fn sheets() {
-    let s = [
-        3,
-        1,
-        16,
-        0,
-        2,
-        0,
-        2,
-        18,
-        0,
-        4,
-        0,
-        3,
-        22,
-        0,
-        0,
-        0,
-        0,
-        0,
-        0,
-        0,
-        0,
-        0,
-    ];
+    let s = SMALLEST;
     let long = [0; 2067];
     read(b"no bytes", &s[..0]);
     read(b"21 bytes", &s[..21]);

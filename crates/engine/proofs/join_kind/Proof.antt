@@ -5,7 +5,7 @@ use Rattle.engine.proofs.join_kind.Statement.{statement}
 use Rattle.engine.proofs.join_kind.Tie as tie
 use Rattle.engine.proofs.join_kind.Reads as reads
 use Rattle.engine.proofs.join_kind.Lts as lts
-use Rattle.engine.proofs.cleans.Reads as cleans-reads
+use Rattle.front.proofs.cleans.Reads as cleans-reads
 
 -- src/lib.rt:36:9
 returns : tie.Need-returns

@@ -1,13 +1,14 @@
+use Rattle.laws.proofs.Tests.{or-is}
 use borrow.Author.Tests.{ne-eqb}
 use Rattle.sheet.specs.Table.{rowBy, rowAt}
 use Rattle.moves.specs.Fits.{suitsPrefix, suitsBranch, suits}
-use Rattle.fitting.proofs.ByKind.{or-bars, or-bars-two, suits-rest}
+use Rattle.fitting.proofs.ByKind.{or-bars-two, suits-rest}
 use borrow.Author.Needs.{needs}
 use Rattle.fitting.proofs.suits.Statement.{statement}
 use Rattle.fitting.proofs.suits.Tie as tie
 use Rattle.fitting.proofs.suits.Reads as reads
 use Rattle.fitting.proofs.suits.Lts as lts
-use Rattle.fitting.proofs.cleaning.Reads as cleaning-reads
+use Rattle.front.proofs.cleans.Reads as cleans-reads
 
 -- src/lib.rt:38:14
 mul-match : tie.Need-mul-match
@@ -18,8 +19,8 @@ shared-slice-read-match : tie.Need-shared-slice-read-match
 shared-slice-read-match c = search needs
 
 -- src/lib.rt:41:43
-cleaning-requires : tie.Need-cleaning-requires
-cleaning-requires c κs = search needs
+cleans-requires : tie.Need-cleans-requires
+cleans-requires c κs = search needs
 
 -- src/lib.rt:34:1
 returns : tie.Need-returns
@@ -34,7 +35,7 @@ returns-2 c = rw (c .match .keys2)
 -- src/lib.rt:34:1
 returns-3 : tie.Need-returns-3
 unfolding rowAt rowBy suits suitsPrefix
-returns-3 c = rw (c .before .match .keys3, c .cleaning .ensures) (or-bars _ _)
+returns-3 c = rw (c .before .match .keys3, c .cleans .ensures) (or-is _ _)
 
 -- src/lib.rt:34:1
 returns-4 : tie.Need-returns-4
@@ -52,7 +53,7 @@ suits-spec =
     (tie.spec
     mul-match
     shared-slice-read-match
-    cleaning-requires
+    cleans-requires
     returns
     returns-2
     returns-3
