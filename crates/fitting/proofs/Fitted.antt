@@ -4,7 +4,7 @@ use mathlib.Core.Path.{_≡_, refl, sym, _∙_, ap}
 use mathlib.Core.List.{List, [], _∷_}
 use native.Mathlib.Omega.{arith}
 use borrow.Author.Tests.{le-leb, leb-true}
-use Rattle.laws.specs.Checks.{Check, Holds, checked, AllHold}
+use Rattle.laws.specs.Checks.{Holds, checked, AllHold}
 use Rattle.laws.proofs.Checks.{all-hold}
 use Rattle.sheet.specs.declared.Refusal.{Refusal}
 use Rattle.sheet.specs.Table.{Table}

@@ -1,7 +1,7 @@
 -- The answers of the calls with a state, from what the judge, the fit and the engine say. Assumes nothing.
 use Prim.Native.Nat.{ℕ, _<_, _≤_}
 use mathlib.Core.Path.{_≡_, refl, sym, _∙_, ap}
-use mathlib.Core.Bool.{Bool, true, false, cond, _&&_, not}
+use mathlib.Core.Bool.{Bool, true, false, cond, not}
 use mathlib.Core.List.{List, [], _∷_, _++_}
 use native.Mathlib.Omega.{arith}
 use lib.Dec.{eqb, ltb}
@@ -18,7 +18,6 @@ use Rattle.sheet.specs.Sheet.{room}
 use Rattle.sheet.specs.Accepted.{WellFormed}
 use Rattle.sheet.proofs.Accepted.{meets, well-formed}
 use Rattle.sheet.proofs.Refusals.{numbered, refused-by, accepted-by, table-refused-first, table-accepted-first, one-place-fails, one-place-holds}
-use Rattle.codec.specs.declared.SizeAnswer.{SizeAnswer}
 use Rattle.codec.specs.declared.SizeAnswer.the-variants as size
 use Rattle.state.specs.declared.State.{State}
 use Rattle.state.specs.declared.StepKind.{StepKind}
@@ -29,7 +28,7 @@ use Rattle.fitting.specs.Checks.{stateChecks}
 use Rattle.fitting.proofs.Fitted.{state-checks}
 use Rattle.engine.specs.declared.Stepped.{Stepped}
 use Rattle.engine.specs.ByValue.{takenAnswer}
-use Rattle.sheet_engine.specs.Answers.{callChecks, listChecks, listAnswer, listBuffer, kindAnswer, notTaken, stepAnswer}
+use Rattle.sheet_engine.specs.Answers.{callChecks, listAnswer, listBuffer, kindAnswer, notTaken, stepAnswer}
 
 -- where none of two lists of checks fails, none of the first does
 first-accepted : (cs ds : List Check) → numbered cs ≡ true → checked refuse (refuse 0 0) (cs ++ ds) .number ≡ 0 → checked refuse (refuse 0 0) cs .number ≡ 0

@@ -1,4 +1,3 @@
-use native.Mathlib.Omega.{arith}
 use Rattle.sheet_engine.proofs.Steps.{list-refused, list-short, list-given, call-formed}
 use borrow.Author.Needs.{needs}
 use Rattle.sheet_engine.proofs.list_steps.Statement.{statement}
