@@ -258,7 +258,7 @@ clean-needs t w s r e =
     (h, front-clean r (s .mode) (t .n) (nodes t r) (λ q. digit (evalIn t q (linksOf s))) (ltb r (t .n) && reached (nodes t) (marksOf s) r && waitingStep (nodes t r) (marksOf s r)) (w .tree .kids r h) (sym (kind-from t s r) ∙ sym e))
 
 -- a row has a step exactly if its kind is one
-has-kind : (N : Row) (r : ℕ) (o : Option Turn) → isStep (kindTurned N r o) ≡ isSome o
+pub has-kind : (N : Row) (r : ℕ) (o : Option Turn) → isStep (kindTurned N r o) ≡ isSome o
 unfolding kindTurned
 has-kind N r none = refl
 has-kind N r (some takes) = taken-is-step (kindBy N) (kind-by N)
