@@ -3,27 +3,42 @@ use mathlib.Core.Path.{_≡_, refl, sym, ap, _∙_}
 use mathlib.Core.Bool.{Bool, true, false, cond}
 use mathlib.Core.List.{List, [], _∷_, _++_}
 use Prim.Native.Nat.{ℕ, zero, suc, _+_, _*_, _/_, _%_, _^_, _≤_, _<_}
+use native.Mathlib.Nat.{pow-suc}
 use native.Mathlib.Omega.{arith}
 use lib.Dec.{ltb}
-use lib.ListN.{length}
+use lib.ListN.{length, length-append}
 use borrow.Author.Tests.{ltb-true, ltb-false, lt-ltb, le-ltb}
 use Rattle.laws.proofs.Tests.{cond-cases}
 use Rattle.lines.specs.Lines.{glyph, digitsBy, decimal}
 
-enough : (f g x : ℕ) → x < f → x < g → digitsBy f x ≡ digitsBy g x
+-- as many digits as hold the number are enough
+enough : (f x : ℕ) → x < 10 ^ suc f → digitsBy (suc f) x ≡ digitsBy (suc (suc f)) x
 unfolding digitsBy
-enough zero g x hf hg = absurd (omega arith)
-enough (suc f) zero x hf hg = absurd (omega arith)
-enough (suc f) (suc g) x hf hg = at (ltb x 10) refl (λ h. enough f g (x / 10) (omega (arith, h, hf)) (omega (arith, h, hg)))
+enough zero x h = rw (lt-ltb x 10 h) refl
+enough (suc f) x h = at (ltb x 10) (enough f (x / 10) (let e : 10 ^ suc (suc f) ≡ 10 ^ suc f * 10 = pow-suc 10 (suc f) in omega (arith, h, e)))
   where
-    at : (b : Bool) → ltb x 10 ≡ b → (10 ≤ x → digitsBy f (x / 10) ≡ digitsBy g (x / 10)) → cond b (glyph x ∷ []) (digitsBy f (x / 10) ++ (glyph (x % 10) ∷ [])) ≡ cond b (glyph x ∷ []) (digitsBy g (x / 10) ++ (glyph (x % 10) ∷ []))
-    at true e less = refl
-    at false e less = ap (λ (l : List ℕ). l ++ (glyph (x % 10) ∷ [])) (less (ltb-false x 10 e))
+    at : (b : Bool) → digitsBy (suc f) (x / 10) ≡ digitsBy (suc (suc f)) (x / 10) → cond b (glyph x ∷ []) (digitsBy (suc f) (x / 10) ++ (glyph (x % 10) ∷ [])) ≡ cond b (glyph x ∷ []) (digitsBy (suc (suc f)) (x / 10) ++ (glyph (x % 10) ∷ []))
+    at true e = refl
+    at false e = ap (λ (l : List ℕ). l ++ (glyph (x % 10) ∷ [])) e
+
+short : (f x : ℕ) → length (digitsBy f x) ≤ f
+unfolding digitsBy
+short zero x = omega arith
+short (suc f) x = at (ltb x 10) (short f (x / 10))
+  where
+    at : (b : Bool) → length (digitsBy f (x / 10)) ≤ f → length (cond b (glyph x ∷ []) (digitsBy f (x / 10) ++ (glyph (x % 10) ∷ []))) ≤ suc f
+    at true h = omega arith
+    at false h = let e = length-append (digitsBy f (x / 10)) (glyph (x % 10) ∷ []) in omega (arith, e, h)
 
 pub decimal-one : (x : ℕ) → x < 10 → decimal x ≡ glyph x ∷ []
 unfolding decimal digitsBy
 decimal-one x h = rw (lt-ltb x 10 h)
 
-pub decimal-more : (x : ℕ) → 10 ≤ x → decimal x ≡ decimal (x / 10) ++ (glyph (x % 10) ∷ [])
+pub decimal-more : (x : ℕ) → 10 ≤ x → x < 2 ^ 64 → decimal x ≡ decimal (x / 10) ++ (glyph (x % 10) ∷ [])
 unfolding decimal digitsBy
-decimal-more x h = ap (λ (b : Bool). cond b (glyph x ∷ []) (digitsBy x (x / 10) ++ (glyph (x % 10) ∷ []))) (le-ltb x 10 h) ∙ ap (λ (l : List ℕ). l ++ (glyph (x % 10) ∷ [])) (enough x (suc (x / 10)) (x / 10) (omega (arith, h)) (omega arith))
+decimal-more x h k = rw (le-ltb x 10 h) (ap (λ (l : List ℕ). l ++ (glyph (x % 10) ∷ [])) (enough 18 (x / 10) (omega (arith, k))))
+
+-- ... and there are no more
+pub decimal-short : (x : ℕ) → length (decimal x) ≤ 20
+unfolding decimal
+decimal-short x = short 20 x

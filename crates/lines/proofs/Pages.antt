@@ -7,8 +7,9 @@ use native.Mathlib.Omega.{arith}
 use native.Mathlib.Numerals.{add-one}
 use lib.Dec.{ltb}
 use lib.ListN.{length, set, length-set, drop, take, drop, drop-of-length-le, getD}
-use lib.Seq.{drop-cons}
-use borrow.Author.Tests.{lt-ltb, le-ltb, ne-eqb}
+use lib.Seq.{drop-cons, sets, sets-eq}
+use borrow.Author.Tests.{lt-ltb, le-ltb, le-leb, ne-eqb}
+use Rattle.laws.specs.Listed.{written}
 use Rattle.lines.specs.Page.{Page, page, more, added}
 use Rattle.lines.specs.Lines.{field, fields, feed, letter, letters, linksWord, linksLine, overWord, enabledWord, lastLine}
 
@@ -105,3 +106,19 @@ links-none m xs h = rw h
 pub links-some : (m : ℕ) (xs : List ℕ) → (m ≡ 0 → ⊥) → linksLine m xs ≡ linksWord ++ ((32 ∷ letters (take m xs)) ++ feed)
 unfolding linksLine
 links-some m xs h = rw (ne-eqb m 0 h)
+
+-- where there is room, every byte is there
+added-sets : (b : List ℕ) (e : ℕ) (xs : List ℕ) → e + length xs ≤ length b → added (page b e) xs ≡ page (sets b e xs) (e + length xs)
+unfolding added
+added-sets b e [] h = let z : e ≡ e + 0 = omega arith in ap (page b) z
+added-sets b e (x ∷ xs) h =
+    let k = length-set b e x in
+    let z : e + 1 + length xs ≡ e + suc (length xs) = omega arith in
+    ap (λ (p : Page). added p xs) (sym (more-room b e x (omega (arith, h)))) ∙ (added-sets (set b e x) (e + 1) xs (omega (arith, h, k)) ∙ (ap (page (sets (set b e x) (e + 1) xs)) z ∙ ap (λ (i : ℕ). page (sets (set b e x) i xs) (e + suc (length xs))) (add-one e)))
+
+pub added-all : (b : List ℕ) (e : ℕ) (xs c : List ℕ) → length xs ≤ length b → page c e ≡ added (page b 0) xs → (e ≡ length xs) × (c ≡ written xs b)
+unfolding written
+added-all b e xs c h k =
+    let z : 0 + length xs ≡ length xs = omega arith in
+    let w : page c e ≡ page (sets b 0 xs) (length xs) = k ∙ (added-sets b 0 xs (omega (arith, h)) ∙ ap (page (sets b 0 xs)) z) in
+    (ap (λ (p : Page). p .end) w, ap (λ (p : Page). p .bytes) w ∙ (sets-eq xs b 0 (omega (arith, h)) ∙ rw (le-leb (length xs) (length b) h, z) refl))

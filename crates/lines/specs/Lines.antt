@@ -9,7 +9,7 @@ use Rattle.state.specs.declared.StepKind.the-variants as kind
 use Rattle.sheet_engine.specs.declared.VerdictAnswer.{VerdictAnswer}
 use Rattle.sheet_engine.specs.declared.VerdictAnswer.the-variants as verdict
 
--- "Fields and row numbers are decimal"
+-- "Fields and row numbers are decimal": twenty digits hold every number of 64 bits
 abbrev pub glyph : ℕ → ℕ
 glyph d = 48 + d
 
@@ -18,7 +18,7 @@ digitsBy zero x = []
 digitsBy (suc f) x = cond (ltb x 10) (glyph x ∷ []) (digitsBy f (x / 10) ++ (glyph (x % 10) ∷ []))
 
 unfoldable pub decimal : ℕ → List ℕ
-decimal x = digitsBy (suc x) x
+decimal x = digitsBy 20 x
 
 -- "parted by one space; each line ends with a line feed"
 unfoldable pub field : ℕ → List ℕ

@@ -74,7 +74,7 @@ module _ (t : Table) (s : State) (g : Running t s) where
   unfolding takenAnswer kindAt hasStep
   ok-is r = ap (λ (z : Stepped). z .ok) (step-is r) ∙ has-kind (nodes t r) r (turnAt t s r)
 
-  few : length (listedOf t s) ≤ 256
+  pub few : length (listedOf t s) ≤ 256
   unfolding listedOf
   few = omega (arith, length-listed (hasStep t s) 0 (t .n), formed .few-terms)
 

@@ -1,7 +1,9 @@
 // What the program prints, from what it reads: input bytes to output bytes.
 ghost use mathlib.Core.Path.{_≡_};
-ghost use Prim.Native.Nat.{_<_};
+ghost use Prim.Native.Nat.{_<_, _≤_};
+ghost use lib.ListN.{length, take};
 ghost use Rattle.laws.specs.Checks.{checked};
+ghost use Rattle.laws.specs.Listed.{written};
 ghost use Rattle.sheet.specs.Table.{tableOf};
 ghost use Rattle.lines.specs.Page.{page, added};
 ghost use Rattle.lines.specs.Lines.{refusedLine};
@@ -90,6 +92,7 @@ fn wide(x: u8) -> usize
     x as usize
 }
 
+// What is printed, as far as there is room.
 fn lines_of(input: &[u8], out: &mut [u8]) -> usize
     ensures { λ r. ⌜ page (now (out .exit)) r ≡ added (page (now (out .entry)) 0) (printed (now (input .entry))) ⌝ }
 {
@@ -103,4 +106,12 @@ fn lines_of(input: &[u8], out: &mut [u8]) -> usize
     }
     let end = 3 + size;
     sheet_lines(out, input[0], &input[3..end], &input[end..])
+}
+
+// What is printed, for any input. The buffer holds every output.
+pub fn print(input: &[u8], out: &mut [u8; 24576]) -> usize
+    ensures { λ r. ⌜ (r ≡ length (printed (now (input .entry)))) × (now (out .exit) ≡ written (printed (now (input .entry))) (now (out .entry))) ⌝ }
+    ensures { λ r. ⌜ (r ≤ length (now (out .exit))) × (r ≡ length (take r (now (out .exit)))) ⌝ }
+{
+    lines_of(input, out)
 }

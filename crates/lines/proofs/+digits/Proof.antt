@@ -124,7 +124,7 @@ digits-returns-2 : (t : ℕ) → digits-lts.Need-returns-2 (
   digits-below t,
   digits.Post,
 ) (digits-at t) digits.Post
-digits-returns-2 t c = then _ _ _ _ _ (c .before .before .before .before .before .before .digits .ensures) (byte _ _ _ (c .before .before .put2 .ensures)) ∙ ap (added _) (sym (decimal-more _ (c .before .before .before .before .before .before .before .before .if1 .left)))
+digits-returns-2 t c = then _ _ _ _ _ (c .before .before .before .before .before .before .digits .ensures) (byte _ _ _ (c .before .before .put2 .ensures)) ∙ ap (added _) (sym (decimal-more _ (c .before .before .before .before .before .before .before .before .if1 .left) (c .before .before .before .before .before .before .before .before .before .before .fits .x .fits)))
 
 pub +digits-spec : {M : Type 1} → statement M
 +digits-spec = close μ-digits λ t. digits-lts.spec (
