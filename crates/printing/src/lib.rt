@@ -37,7 +37,15 @@ fn step(s: State, h: Head, ts: &[u8], cs: &[u8], row: u8) -> Stepped
 }
 
 // The steps, each on its line, up to the first that is refused; then the end.
-fn step_lines(out: &mut [u8], at: usize, s: State, h: Head, ts: &[u8], cs: &[u8], rows: &[u8]) -> usize
+fn step_lines(
+    out: &mut [u8],
+    at: usize,
+    s: State,
+    h: Head,
+    ts: &[u8],
+    cs: &[u8],
+    rows: &[u8],
+) -> usize
     requires { ⌜ Running (tableOf h (now ts) (now cs)) s ⌝ }
     ensures { λ r. ⌜ page (now (out .exit)) r ≡ added (page (now (out .entry)) at) (stepLines (tableOf h (now (ts .entry)) (now (cs .entry))) s (now (rows .entry))) ⌝ }
 {
