@@ -1,4 +1,4 @@
-// The cases of data/base.cases: what is printed for each input, beside what has to be. A case is the length of the input (4 bytes, lower first), the input, the length of the output, the output.
+// The cases of data/: document 01's examples, and 1,500 more. What is printed for each input, beside what has to be. A case is the length of the input (4 bytes, lower first), the input, the length of the output, the output.
 ghost use Prim.Native.Nat.{_<_};
 ghost use Rattle.io.specs.Counts.{Counts};
 use libc::STDOUT_FILENO;
@@ -55,8 +55,7 @@ fn say(agreed: u64, cases: u64) {
     io::write_all(STDOUT_FILENO, b" cases agree\n");
 }
 
-fn main() {
-    let file = os::open_read(b"base.cases");
+fn try_cases(file: i32) {
     let mut cases: u64 = 0;
     let mut agreed: u64 = 0;
     let mut case = next_case(file);
@@ -70,4 +69,11 @@ fn main() {
         }
     }
     say(agreed, cases);
+}
+
+fn main() {
+    io::write_all(STDOUT_FILENO, b"document 01: ");
+    try_cases(os::open_read(b"examples.cases"));
+    io::write_all(STDOUT_FILENO, b"more: ");
+    try_cases(os::open_read(b"base.cases"));
 }

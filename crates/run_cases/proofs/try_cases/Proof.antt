@@ -4,11 +4,10 @@ use Prim.Native.Nat.{_-_, _≤_}
 use native.Mathlib.Omega.{arith}
 use borrow.Author.Tests.{ltb-true}
 use Rattle.laws.proofs.Tests.{and-r}
-use Rattle.run_cases.proofs.main.Statement.{statement}
-use Rattle.run_cases.proofs.main.Tie as tie
-use Rattle.run_cases.proofs.main.Reads as reads
-use Rattle.run_cases.proofs.main.Lts as lts
-use Rattle.os.proofs.open_read.Reads as open-read-reads
+use Rattle.run_cases.proofs.try_cases.Statement.{statement}
+use Rattle.run_cases.proofs.try_cases.Tie as tie
+use Rattle.run_cases.proofs.try_cases.Reads as reads
+use Rattle.run_cases.proofs.try_cases.Lts as lts
 use Rattle.run_cases.proofs.next_case.Reads as next-case-reads
 use Rattle.run_cases.proofs.say.Reads as say-reads
 
@@ -19,12 +18,8 @@ abbrev μ-loop : tie.MeasureT-loop
 μ-loop file cases₀ agreed₀ case₀ cases agreed case = 100000 - cases
 
 -- src/main.rt:59:30
-slice-aggregate-open-read : tie.Need-slice-aggregate-open-read Inv-loop μ-loop
-slice-aggregate-open-read c = refl
 
 -- src/main.rt:59:9
-open-read-requires : tie.Need-open-read-requires Inv-loop μ-loop
-open-read-requires c κs = tt
 
 -- src/main.rt:62:9
 next-case-requires : tie.Need-next-case-requires Inv-loop μ-loop
@@ -74,14 +69,12 @@ say-requires c κs = tt
 returns : tie.Need-returns Inv-loop μ-loop
 returns c = tt
 
-pub main-spec : {M : Type 1} → statement M
-main-spec =
+pub try-cases-spec : {M : Type 1} → statement M
+try-cases-spec =
     tie.close
     (tie.spec
     Inv-loop
     μ-loop
-    slice-aggregate-open-read
-    open-read-requires
     next-case-requires
     loop-holds
     add-cases
