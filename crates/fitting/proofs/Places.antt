@@ -11,7 +11,7 @@ use Rattle.steps.specs.Marks.{Marks}
 use Rattle.steps.specs.InFront.{waiting}
 use Rattle.sheet.specs.Table.{rowAt}
 use Rattle.moves.specs.Fits.{suits, markOk, linkOk, held, waitOk, live, clearRow, clearOk}
-use Rattle.front.specs.Asked.{nextOf, topOf, askedAt, Shows}
+use Rattle.front.specs.Asked.{nextBy, nextOf, topOf, askedAt, Shows}
 use Rattle.front.proofs.Asking.{bit-one}
 
 pub mark-read : (ts : List ℕ) (n : ℕ) (m : Mode) (μ : Marks) (i : ℕ) (r : Bool) → r ≡ cond (ltb i n) (suits m (rowAt ts i) (μ i)) (eqb (μ i) 0) → markOk ts n m μ i ≡ r
@@ -27,11 +27,11 @@ shown : (v : ℕ → Bool) (n : ℕ) (t : List ℕ) (i : ℕ) → Shows v n t �
 shown v n t i s h = ap (λ (x : ℕ). eqb x 1) (s .at i h) ∙ bit-one (v i)
 
 asked-held : (ts : List ℕ) (μ : Marks) (i : ℕ) → askedAt 1 (rowAt ts) μ i ≡ held ts μ i
-unfolding askedAt nextOf topOf held
+unfolding askedAt nextOf nextBy topOf held
 asked-held ts μ i = refl
 
 asked-live : (ts : List ℕ) (μ : Marks) (i : ℕ) → askedAt 2 (rowAt ts) μ i ≡ live ts μ i
-unfolding askedAt nextOf topOf live
+unfolding askedAt nextOf nextBy topOf live
 asked-live ts μ i = refl
 
 module _ (ts : List ℕ) (μ : Marks) (n : ℕ) (t : List ℕ) (i : ℕ) (h : i < n) (r : Bool) where
