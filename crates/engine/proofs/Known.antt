@@ -32,7 +32,7 @@ use Rattle.state.specs.declared.State.{State}
 use Rattle.state.specs.declared.StepKind.{StepKind}
 use Rattle.state.specs.declared.StepKind.the-variants.{Act, Set, Open, Clean, Refused}
 use Rattle.moves.specs.Steps.{modeOf, marksOf, linksOf, nodes, turnBy, turnAt, kindOf, kindBy, kindTurned, kindAt, hasStep, isSome, listedOf, steppedBy, steppedOf, takenOf, droppedOf}
-use Rattle.front.specs.Asked.{nextOf, topOf, askedAt, Shows}
+use Rattle.front.specs.Asked.{nextBy, nextOf, topOf, askedAt, Shows}
 use Rattle.front.proofs.Asking.{bit-one}
 use Rattle.effects.specs.Gather.{OwnBelow}
 use Rattle.engine.specs.ByValue.{joinKind, prefixKind, rowKind, kindFrom, isStep, stepFrom, takenAnswer}
@@ -101,7 +101,7 @@ same-kind r mode (PREFIX (join q) c) f g h = ap (joinKind r mode) (h q c refl)
 same-kind r mode (BRANCH κ p q) f g h = refl
 
 asked-reached : (node : ℕ → Row) (μ : Marks) (j : ℕ) → askedAt 0 node μ j ≡ reached node μ j
-unfolding askedAt nextOf topOf reached
+unfolding askedAt nextOf nextBy topOf reached
 asked-reached node μ j = refl
 
 value-known : (t : Table) (s : State) (vals : List ℕ) (q : ℕ) → t .k ≤ 256 → q < t .k → Evaluated (t .evaluation) (t .conditions) (linksOf s) (t .k) vals → getD vals q 0 ≡ digit (evalIn t q (linksOf s))

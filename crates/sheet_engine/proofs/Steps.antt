@@ -113,9 +113,9 @@ unfolding refusalOf numbered
 call-formed t s r told e = well-formed t (meets t (first-accepted (tableChecks t) (modeCheck (s .mode) ∷ fitChecks t s) refl (ap (λ (r : Refusal). r .number) (sym told) ∙ e)))
 
 -- where no step was taken, the state is the one that was handed in
-pub step-kept : (t : Table) (s : State) (row : ℕ) → stepAnswer t s row .ok ≡ false → stepAnswer t s row .state ≡ s
+pub state-back : (t : Table) (s : State) (row : ℕ) → stepAnswer t s row .ok ≡ false → stepAnswer t s row .state ≡ s
 unfolding takenAnswer
-step-kept t s row off =
+state-back t s row off =
     by-cases (ℕ-discrete (checked refuse (refuse 0 0) (callChecks t s) .number) 0)
     (λ e.
     let k = step-given t s _ refl row _ e refl in

@@ -47,7 +47,7 @@ use denote.Triple.Walked.{says, Stays, stay-ref, stay-none, stay-none-slice, goe
 use denote.Exit.{yes}
 use Rattle.sheet.specs.Table.{tableOf}
 use Rattle.sheet_engine.specs.Answers.{stepAnswer}
-use Rattle.sheet_engine.proofs.Steps.{step-kept}
+use Rattle.sheet_engine.proofs.Steps.{state-back}
 use Rattle.state.specs.declared.State.{State}
 use Rattle.state.proofs.State as states
 use Rattle.state.proofs.State.Laws as states-laws
@@ -175,7 +175,7 @@ module _ {M : Type 1} (𝓤 : URA M) (H : Heap 𝓤) (A : Atoms 𝓤) (W : Given
         drop ! $ move ! (3 ∷ 4 ∷ 5 ∷ 6 ∷ 7 ∷ []) $ closes ! tt states.the-row old (state-val old ∷ []) b o $
         returns ! (look ! 22 refl) $ forget ! 22 refl $ forget ! 20 refl $ forget ! 18 refl $ forget ! 16 refl $ forget ! 14 refl $ forget ! 12 refl $ forget ! 10 refl $ forget ! 8 refl $ forget ! 6 refl $
         move ! (22 ∷ 23 ∷ []) $ free1 ! $ move ! (20 ∷ 21 ∷ []) $ free1 ! $ move ! (18 ∷ 19 ∷ []) $ free1 ! $ move ! (16 ∷ 17 ∷ []) $ free1 ! $ move ! (14 ∷ 15 ∷ []) $ free1 ! $ move ! (12 ∷ 13 ∷ []) $ free1 ! $ move ! (10 ∷ 11 ∷ []) $ free1 ! $ move ! (8 ∷ 9 ∷ []) $ free1 ! $ move ! (6 ∷ 7 ∷ []) $ free1 ! $ free0 ! $
-        keep ! (0 ∷ 1 ∷ 2 ∷ 3 ∷ 5 ∷ 4 ∷ []) $ by ! (exits (r .answer) old (answer-is r _ is) (ap (λ (z : Stepped). z .answer) e, sym (step-kept (tableOf h (ts .now) (cs .now)) old row (not-taken r e off))))))))))))))))))))
+        keep ! (0 ∷ 1 ∷ 2 ∷ 3 ∷ 5 ∷ 4 ∷ []) $ by ! (exits (r .answer) old (answer-is r _ is) (ap (λ (z : Stepped). z .answer) e, sym (state-back (tableOf h (ts .now) (cs .now)) old row (not-taken r e off))))))))))))))))))))
 
 module _ {M : Type 1} (𝓤 : URA M) (H : Heap 𝓤) (A : Atoms 𝓤) (W : Given 𝓤 H A) (at-mem : Memory → SProp 𝓤) (run : Routine → Fun 𝓤) where
   f-walks : (C : Calls 𝓤 H) (Λ : Loops 𝓤 H) → FmC 𝓤 H (W .laws) C → Triple 𝓤 (C #sheet-engine·take-step) (Callee 𝓤 H A at-mem run) → Walks 𝓤 H A f.ended stayed (WpFn 𝓤 H C Λ code.function) (f.clauses 𝓤 H A at-mem run)
