@@ -146,7 +146,7 @@ module _ (value : Links → Value) (m : ℕ) (ls : List ℕ) (x word : ℕ) (f :
         let k : lowest (λ j. not (hasBit word j)) 0 64 < 64 = bits-some 64 word small some in
         let set-there : hasBit word (trailingZeros 64 word) ≡ true = ap (hasBit word) z ∙ not-false (hasBit word (lowest (λ j. not (hasBit word j)) 0 64)) (lowest-at (λ j. not (hasBit word j)) 0 64 (omega arith)) in
         by-cases (decLt s all)
-        (λ q. sym (lowest-is (quiet value m ls) (3 ^ length ls) s below-first (omega arith) (lane-loud (trailingZeros 64 word) (omega arith) set-there)))
+        (λ q. sym (lowest-is (quiet value m ls) 0 (3 ^ length ls) s (omega arith) (λ j a b. below-first j b) (omega arith) (lane-loud (trailingZeros 64 word) (omega arith) set-there)))
         (λ q. let e : s ≡ all = omega arith in e ∙ number-end value m ls all s size (omega arith) below-first)
 
 -- the words of 64 numbers of a narrow row

@@ -1,15 +1,15 @@
 -- Checks 1 and 3, and what each check hands to the next. Assumes nothing.
 use Prim.Native.Nat.{ℕ, _*_, _<_, _≤_}
-use mathlib.Core.Path.{_≡_}
+use mathlib.Core.Path.{_≡_, refl}
 use mathlib.Core.Bool.{true, false}
 use mathlib.Core.List.{List, [], _∷_}
 use native.Mathlib.Omega.{arith}
 use lib.Dec.{leb}
 use lib.ListN.{length}
 use borrow.Author.Tests.{le-leb, lt-leb, leb-true}
-use Rattle.laws.specs.Checks.{Check, placeOf, checked}
+use Rattle.laws.specs.Checks.{Check, placeOf, Holds, checked}
 use Rattle.laws.proofs.Tests.{and-l, and-r}
-use Rattle.laws.proofs.Checks.{checked-fails, checked-holds, Scanned, scanned-none, scanned-more, scanned-stop, scanned-end}
+use Rattle.laws.proofs.Checks.{checked-fails, checked-holds, holds-end, Scanned, scanned-none, scanned-more, scanned-stop, scanned-end}
 use Rattle.sheet.specs.declared.Refusal.{Refusal}
 use Rattle.sheet.specs.Table.{Table}
 use Rattle.sheet.specs.Rules.{sized, settled, sizes, settings, refuse}
@@ -23,6 +23,9 @@ fails c cs p = checked-fails refuse (refuse 0 0) c cs p
 
 pub holds : (c : Check) (cs : List Check) (p : ℕ) → p ≡ placeOf c → c .upto ≤ p → first cs ≡ first (c ∷ cs)
 holds c cs p = checked-holds refuse (refuse 0 0) c cs p
+
+pub holds-all : (c : Check) (cs : List Check) → Holds c → first cs ≡ first (c ∷ cs)
+holds-all c cs h = holds c cs (placeOf c) refl (holds-end c h)
 
 -- the last check holds
 pub holds-last : (c : Check) (p : ℕ) → p ≡ placeOf c → c .upto ≤ p → refuse 0 0 ≡ first (c ∷ [])

@@ -1,2 +1,4 @@
-pub mod Counts
 pub mod Chain
+pub mod Counts
+pub mod Links
+pub mod Pass

@@ -1,17 +1,20 @@
--- What a check may rest on once those before it hold.
-use Prim.Native.Nat.{ℕ, _*_, _≤_}
+-- What a check may rest on once those before it hold, and what the pass over the term rows notes.
+use Prim.Native.Nat.{ℕ, _+_, _*_, _<_, _≤_}
 use mathlib.Core.Path.{_≡_}
-use mathlib.Core.Bool.{Bool, true, cond}
+use mathlib.Core.Bool.{true, cond}
 use mathlib.Core.List.{List}
-use lib.Dec.{eqb, leb}
-use lib.ListN.{length, getD}
+use lib.Bits.{bitAnd, bitOr}
+use lib.Dec.{eqb, ltb, leb}
+use lib.ListN.{length, getD, set}
+use Rattle.laws.specs.Tests.{or}
 use Rattle.laws.specs.Up.{Filled}
-use Rattle.laws.specs.Checks.{Holds}
+use Rattle.laws.specs.Checks.{placeOf, Holds}
 use Rattle.laws.specs.Listed.{listed}
-use Rattle.laws.specs.Tally.{bumped, Tally}
-use Rattle.reach.specs.Masks.{hasBit, maskAt}
+use Rattle.steps.specs.Rows.{Row}
+use Rattle.reach.specs.Masks.{hasBit, linkBit, maskAt}
 use Rattle.sheet.specs.Table.{Table}
-use Rattle.sheet.specs.Rules.{timesNamed, sources, conditions, terms}
+use Rattle.sheet.specs.Rules.{termOk, same, namings, timesNamed, sources, conditions, narrow}
+use Rattle.judge.specs.declared.Notes.{Notes}
 
 -- 1: the rows are lent
 pub record Lent (t : Table) : Type 0 where
@@ -21,21 +24,6 @@ pub record Lent (t : Table) : Type 0 where
   pub terms-lent : t .n * 4 ≤ length (t .terms)
   pub conditions-lent : t .k * 4 ≤ length (t .conditions)
 
--- a table that has counted the children, or the OUT rows, of the rows below i
-unfoldable pub Children : List ℕ → ℕ → List ℕ → Type 0
-Children ts i t = (length t ≡ 256) × Tally t (timesNamed ts i)
-
-unfoldable pub Sources : List ℕ → ℕ → List ℕ → Type 0
-Sources ts i t = (length t ≡ 256) × Tally t (sources ts i)
-
--- one OUT row more, by a row's kind and its first byte
-unfoldable pub noted : List ℕ → ℕ → ℕ → List ℕ
-noted t kind a = cond (eqb kind 2) (bumped t a) t
-
--- 8 from a table of masks, by a row's kind and its first byte
-unfoldable pub narrowBy : List ℕ → ℕ → ℕ → Bool
-narrowBy masks kind a = cond (eqb kind 3) (leb (length (listed (hasBit (getD masks a 0)) 0 64)) 8) true
-
 -- 1, 3 and 4 hold, and the masks are made
 pub record AfterConditions (t : Table) (masks : List ℕ) : Type 0 where
   pub lent : Lent t
@@ -43,7 +31,57 @@ pub record AfterConditions (t : Table) (masks : List ℕ) : Type 0 where
   pub masked : Filled 0 (maskAt (t .conditions)) (t .k) masks
   pub sound : Holds (conditions (t .m) (t .k) (t .conditions))
 
--- ... and 5
-pub record AfterTerms (t : Table) (masks : List ℕ) : Type 0 where
-  pub before : AfterConditions t masks
-  pub sound : Holds (terms (t .m) (t .n) (t .k) (t .terms))
+-- 5 holds of the rows below i
+unfoldable pub Sound : ℕ → ℕ → ℕ → List ℕ → ℕ → Type 0
+Sound m n k ts i = (p : ℕ) → p < i → termOk ts m n k p ≡ true
+
+-- one more at a key
+unfoldable pub bumped : List ℕ → ℕ → List ℕ
+bumped t key = set t key (getD t key 0 + 1)
+
+-- no count is above b
+unfoldable pub Few : List ℕ → ℕ → Type 0
+Few t b = (j : ℕ) → getD t j 0 ≤ b
+
+-- one more for each child of a row
+pub record OneMore (t : List ℕ) (N : Row) (t′ : List ℕ) : Type 0 where
+  pub long : length t′ ≡ length t
+  pub few : (b : ℕ) → Few t b → Few t′ (b + 2)
+  pub counted : (j : ℕ) → 1 ≤ j → getD t′ j 0 ≡ getD t j 0 + namings N j
+
+-- how often the rows below i name each row from i on; row 0 counts as named, being the root
+pub record Children (ts : List ℕ) (i : ℕ) (t : List ℕ) : Type 0 where
+  pub long : length t ≡ 256
+  pub few : Few t (2 * i + 1)
+  pub counted : (j : ℕ) → i ≤ j → j < 256 → getD t j 0 ≡ same 0 j + timesNamed ts i j
+
+-- 6 holds of the rows below i, if no row names itself or one before it
+unfoldable pub Once : List ℕ → ℕ → Type 0
+Once ts i = (j : ℕ) → 1 ≤ j → j < i → timesNamed ts j j ≡ 1
+
+-- ... and i is the first row of which it does not
+pub record Misnamed (t : Table) (i : ℕ) : Type 0 where
+  pub lent : Lent t
+  pub sound : Sound (t .m) (t .n) (t .k) (t .terms) i
+  pub once : Once (t .terms) i
+  pub low : 1 ≤ i
+  pub high : i < t .n
+  pub not-once : timesNamed (t .terms) i i ≡ 1 → ⊥
+
+-- an OUT row noted, by its link
+unfoldable pub sourceNoted : Notes → ℕ → Notes
+sourceNoted s l = record { linked = bitOr (s .linked) (linkBit l); twice = bitOr (s .twice) (bitAnd (s .linked) (linkBit l)); join = s .join }
+
+-- a JOIN row noted, by the links that its condition reaches: "At most 8 distinct links"
+unfoldable pub joinNoted : Notes → ℕ → ℕ → ℕ → Notes
+joinNoted s n row mask = cond (or (leb (length (listed (hasBit mask) 0 64)) 8) (ltb (s .join) n)) s (record { linked = s .linked; twice = s .twice; join = row })
+
+-- a row noted, by its kind and first byte
+unfoldable pub linksNoted : Notes → ℕ → ℕ → ℕ → ℕ → List ℕ → Notes
+linksNoted s n row kind a masks = cond (eqb kind 2) (sourceNoted s a) (cond (eqb kind 3) (joinNoted s n row (getD masks a 0)) s)
+
+-- 1 and 3 to 6 hold, and every row is noted
+pub record AfterRows (t : Table) (s : Notes) : Type 0 where
+  pub few-links : t .m ≤ 64
+  pub doubled : (l : ℕ) → l < 64 → hasBit (s .twice) l ≡ leb 2 (sources (t .terms) (t .n) l)
+  pub joined : s .join ≡ placeOf (narrow (t .m) (t .n) (t .terms) (t .conditions))

@@ -1,16 +1,14 @@
-// The judge of a table, for any numbers and any rows: one pass over the condition rows, one over the term rows, then the counts.
-// Each check has a function of its own; the chain of the last seven is the order of the checks.
+// The judge of a table, for any numbers and any rows: each condition row and each term row is looked at once.
+// The last eight functions, read from the last, are the order of the checks.
 ghost use mathlib.Core.Path.{_≡_};
-ghost use Prim.Native.Nat.{ℕ, _+_, _*_, _<_, _≤_};
+ghost use Prim.Native.Nat.{_+_, _*_, _<_, _≤_};
 ghost use lib.ListN.{length, getD};
 ghost use Rattle.laws.specs.Up.{Filled};
-ghost use Rattle.laws.specs.Tally.{bumped};
-ghost use Rattle.laws.specs.Checks.{placeOf, Holds, checked};
-ghost use Rattle.steps.specs.Rows.{firstOf, secondOf};
-ghost use Rattle.sheet.specs.Table.{tableOf, rowBy, rowAt};
-ghost use Rattle.sheet.specs.Rules.{sized, conditionRule, conditionOk, childOk, termRule, termOk, conditions, terms, tree, oneSource, narrow, from3, from4, from5, from6, from7, from8, refuse, refusalOf};
+ghost use Rattle.laws.specs.Checks.{placeOf, checked};
+ghost use Rattle.sheet.specs.Table.{tableOf, rowBy};
+ghost use Rattle.sheet.specs.Rules.{sized, conditionRule, conditionOk, childOk, termRule, conditions, terms, narrow, from3, from4, from5, from7, from8, refuse, refusalOf};
 ghost use Rattle.reach.specs.Masks.{maskAt};
-ghost use Rattle.judge.specs.Judge.{Lent, Children, Sources, noted, narrowBy, AfterConditions, AfterTerms};
+ghost use Rattle.judge.specs.Judge.{Lent, AfterConditions, Sound, bumped, Few, OneMore, Children, Misnamed, sourceNoted, joinNoted, linksNoted, AfterRows};
 use sheet::Head;
 use sheet::Refusal;
 
@@ -43,12 +41,13 @@ fn sized_ok(n: usize, k: usize, lt: usize, lc: usize) -> bool
 fn condition_row(m: usize, row: usize, kind: u8, a: usize, b: usize, c: usize) -> bool
     ensures { λ r. ⌜ r ≡ conditionRule m row kind a b c ⌝ }
 {
-    match kind {
-        0 => (a == 0) & ((b == 0) & (c == 0)),
-        1 => (a == 0) & ((b == 0) & (c == 0)),
-        2 => (a < m) & ((b == 0) & (c == 0)),
-        _ => (kind < 7) & ((a < row) & ((b < row) & (c == 0))),
+    if 2 < kind {
+        return (kind < 7) & ((a < row) & ((b < row) & (c == 0)));
     }
+    if kind == 2 {
+        return (a < m) & ((b == 0) & (c == 0));
+    }
+    (a == 0) & ((b == 0) & (c == 0))
 }
 
 fn condition_ok(cs: &[u8], m: usize, row: usize) -> bool
@@ -113,132 +112,97 @@ fn term_row(
     }
 }
 
-// One more at a key; two stands for any more.
-fn bump(counts: &mut [u8; 256], key: u8)
+fn bump(counts: &mut [u16; 256], key: u8)
+    requires { ⌜ getD (now counts) key 0 < 65535 ⌝ }
     ensures { λ _. ⌜ now (counts .exit) ≡ bumped (now (counts .entry)) key ⌝ }
 {
     let x = counts[key as usize];
-    if x < 2 {
-        counts[key as usize] = x + 1;
-    }
+    counts[key as usize] = x + 1;
 }
 
-fn note_children(named: &mut [u8; 256], kind: u8, a: u8, b: u8, c: u8)
-    ensures { λ _. ⌜ now (named .exit) ≡ bumped (bumped (now (named .entry)) (firstOf (rowBy kind a b c))) (secondOf (rowBy kind a b c)) ⌝ }
+// One more for each child of a row.
+fn note_children(named: &mut [u16; 256], kind: u8, a: u8, b: u8, c: u8)
+    requires { ⌜ (length (now named) ≡ 256) × Few (now named) 511 ⌝ }
+    ensures { λ _. ⌜ OneMore (now (named .entry)) (rowBy kind a b c) (now (named .exit)) ⌝ }
 {
     bump(named, rows::first_by(kind, a, b, c));
-    bump(named, rows::second_by(kind, a, b, c));
-}
-
-fn note_source(out: &mut [u8; 256], kind: u8, a: u8)
-    ensures { λ _. ⌜ now (out .exit) ≡ noted (now (out .entry)) kind a ⌝ }
-{
-    if kind == 2 {
-        bump(out, a);
+    if 3 < kind {
+        bump(named, rows::second_by(kind, a, b, c));
     }
 }
 
-// The lowest term row that breaks its rule; on the way how often each row is named as a child, and each link by an OUT row.
-fn bad_term(
-    m: usize,
-    n: usize,
-    k: usize,
-    ts: &[u8],
-    named: &mut [u8; 256],
-    out: &mut [u8; 256],
-) -> usize
-    requires { ⌜ (n * 4 ≤ length (now ts)) × (Children (now ts) 0 (now named) × Sources (now ts) 0 (now out)) ⌝ }
-    ensures { λ r. ⌜ (r ≡ placeOf (terms m n k (now (ts .entry)))) × (n ≤ r → Children (now (ts .entry)) n (now (named .exit)) × Sources (now (ts .entry)) n (now (out .exit))) ⌝ }
+// What checks 7 and 8 ask of the rows so far: the links that an OUT row sets, those that two set, and the lowest JOIN row whose condition reaches more than 8 links, n where there is none.
+struct Notes {
+    linked: u64,
+    twice: u64,
+    join: usize,
+}
+
+fn note_source(notes: Notes, link: u8) -> Notes
+    ensures { λ r. ⌜ r ≡ sourceNoted notes link ⌝ }
 {
-    let mut i = 0;
+    let bit = reach::bit(link);
+    Notes {
+        linked: notes.linked | bit,
+        twice: notes.twice | (notes.linked & bit),
+        join: notes.join,
+    }
+}
+
+fn note_join(notes: Notes, n: usize, row: usize, mask: u64) -> Notes
+    ensures { λ r. ⌜ r ≡ joinNoted notes n row mask ⌝ }
+{
+    if (reach::width(mask) <= 8) | (notes.join < n) {
+        return notes;
+    }
+    Notes {
+        linked: notes.linked,
+        twice: notes.twice,
+        join: row,
+    }
+}
+
+fn note_links(notes: Notes, n: usize, row: usize, kind: u8, a: u8, masks: &[u64; 256]) -> Notes
+    ensures { λ r. ⌜ r ≡ linksNoted notes n row kind a (now (masks .entry)) ⌝ }
+{
+    match kind {
+        2 => note_source(notes, a),
+        3 => note_join(notes, n, row, reach::mask_of(masks, a)),
+        _ => notes,
+    }
+}
+
+// The lowest term row that breaks its rule, where none before a row does.
+fn bad_term(m: usize, n: usize, k: usize, ts: &[u8], from: usize) -> usize
+    requires { ⌜ (n * 4 ≤ length (now ts)) × ((from ≤ n) × Sound m n k (now ts) from) ⌝ }
+    ensures { λ r. ⌜ r ≡ placeOf (terms m n k (now (ts .entry))) ⌝ }
+{
+    let mut i = from;
     while i < n {
         let at = i * 4;
         let kind = ts[at];
-        let a = ts[at + 1];
-        let b = ts[at + 2];
-        let c = ts[at + 3];
-        if !term_row(m, n, k, i, kind, wide(a), wide(b), wide(c)) {
+        let a = wide(ts[at + 1]);
+        let b = wide(ts[at + 2]);
+        let c = wide(ts[at + 3]);
+        if !term_row(m, n, k, i, kind, a, b, c) {
             return i;
         }
-        note_children(named, kind, a, b, c);
-        note_source(out, kind, a);
         i += 1;
     }
     i
 }
 
-// 6: the lowest row above 0 that is not named exactly once.
-fn bad_child(n: usize, ts: &[u8], named: &[u8; 256]) -> usize
-    requires { ⌜ (n ≤ 256) × Children (now ts) n (now named) ⌝ }
-    ensures { λ r. ⌜ r ≡ placeOf (tree n (now (ts .entry))) ⌝ }
-{
-    let mut row = 1;
-    while row < n {
-        let x = named[row];
-        if x != 1 {
-            return row;
-        }
-        row += 1;
-    }
-    row
-}
-
-// 7: the lowest link with two sources.
-fn bad_source(m: usize, n: usize, ts: &[u8], out: &[u8; 256]) -> usize
-    requires { ⌜ (m ≤ 64) × Sources (now ts) n (now out) ⌝ }
-    ensures { λ r. ⌜ r ≡ placeOf (oneSource m n (now (ts .entry))) ⌝ }
-{
-    let mut l = 0;
-    while l < m {
-        let x = out[l];
-        if 1 < x {
-            return l;
-        }
-        l += 1;
-    }
-    l
-}
-
-fn mask_of(masks: &[u64; 256], row: u8) -> u64
-    ensures { λ r. ⌜ r ≡ getD (now (masks .entry)) row 0 ⌝ }
-{
-    masks[row as usize]
-}
-
-fn narrow_at(masks: &[u64; 256], kind: u8, a: u8) -> bool
-    ensures { λ r. ⌜ r ≡ narrowBy (now (masks .entry)) kind a ⌝ }
-{
-    if kind != 3 {
-        return true;
-    }
-    reach::width(mask_of(masks, a)) <= 8
-}
-
-// 8: the lowest JOIN row whose condition reaches more than 8 links.
-fn bad_join(m: usize, n: usize, k: usize, ts: &[u8], cs: &[u8], masks: &[u64; 256]) -> usize
-    requires { ⌜ ((n * 4 ≤ length (now ts)) × (m ≤ 64)) × (Filled 0 (maskAt (now cs)) k (now masks) × (Holds (conditions m k (now cs)) × Holds (terms m n k (now ts)))) ⌝ }
-    ensures { λ r. ⌜ r ≡ placeOf (narrow m n (now (ts .entry)) (now (cs .entry))) ⌝ }
-{
-    let mut j = 0;
-    while j < n {
-        let at = j * 4;
-        if !narrow_at(masks, ts[at], ts[at + 1]) {
-            return j;
-        }
-        j += 1;
-    }
-    j
-}
-
 // Check 8, the last.
-fn judge_joins(h: Head, ts: &[u8], cs: &[u8], masks: &[u64; 256]) -> Refusal
-    requires { ⌜ AfterTerms (tableOf h (now ts) (now cs)) (now masks) ⌝ }
+fn judge_joins(h: Head, ts: &[u8], cs: &[u8], join: usize) -> Refusal
+    requires { ⌜ join ≡ placeOf (narrow (h .m) (h .n) (now ts) (now cs)) ⌝ }
     ensures { λ r. ⌜ r ≡ checked refuse (refuse 0 0) (from8 (tableOf h (now (ts .entry)) (now (cs .entry)))) ⌝ }
 {
     let end = h.n;
-    let place = bad_join(h.m, h.n, h.k, ts, cs, masks);
-    if place < end {
-        return Refusal { number: 8, place };
+    if join < end {
+        return Refusal {
+            number: 8,
+            place: join,
+        };
     }
     Refusal {
         number: 0,
@@ -247,51 +211,77 @@ fn judge_joins(h: Head, ts: &[u8], cs: &[u8], masks: &[u64; 256]) -> Refusal
 }
 
 // Check 7 and on.
-fn judge_sources(h: Head, ts: &[u8], cs: &[u8], masks: &[u64; 256], out: &[u8; 256]) -> Refusal
-    requires { ⌜ AfterTerms (tableOf h (now ts) (now cs)) (now masks) × Sources (now ts) (h .n) (now out) ⌝ }
+fn judge_sources(h: Head, ts: &[u8], cs: &[u8], notes: Notes) -> Refusal
+    requires { ⌜ AfterRows (tableOf h (now ts) (now cs)) notes ⌝ }
     ensures { λ r. ⌜ r ≡ checked refuse (refuse 0 0) (from7 (tableOf h (now (ts .entry)) (now (cs .entry)))) ⌝ }
 {
     let end = h.m;
-    let place = bad_source(h.m, h.n, ts, out);
+    let place = u64::trailing_zeros(notes.twice) as usize;
     if place < end {
         return Refusal { number: 7, place };
     }
-    judge_joins(h, ts, cs, masks)
+    judge_joins(h, ts, cs, notes.join)
 }
 
-// Check 6 and on.
-fn judge_tree(
-    h: Head,
-    ts: &[u8],
-    cs: &[u8],
-    masks: &[u64; 256],
-    named: &[u8; 256],
-    out: &[u8; 256],
-) -> Refusal
-    requires { ⌜ AfterTerms (tableOf h (now ts) (now cs)) (now masks) × (Children (now ts) (h .n) (now named) × Sources (now ts) (h .n) (now out)) ⌝ }
-    ensures { λ r. ⌜ r ≡ checked refuse (refuse 0 0) (from6 (tableOf h (now (ts .entry)) (now (cs .entry)))) ⌝ }
+// The first row that is not named exactly once: 5 if a row from it on breaks its rule, else 6.
+fn judge_tree(h: Head, ts: &[u8], cs: &[u8], row: usize) -> Refusal
+    requires { ⌜ Misnamed (tableOf h (now ts) (now cs)) row ⌝ }
+    ensures { λ r. ⌜ r ≡ checked refuse (refuse 0 0) (from5 (tableOf h (now (ts .entry)) (now (cs .entry)))) ⌝ }
 {
     let end = h.n;
-    let place = bad_child(h.n, ts, named);
+    let place = bad_term(h.m, h.n, h.k, ts, row);
     if place < end {
-        return Refusal { number: 6, place };
+        return Refusal { number: 5, place };
     }
-    judge_sources(h, ts, cs, masks, out)
+    Refusal {
+        number: 6,
+        place: row,
+    }
 }
 
-// Check 5 and on.
+// Check 5 and on, in one pass: the rows that name a row as a child lie before it, so its count is complete when the pass comes to it.
+fn judge_rows(h: Head, ts: &[u8], cs: &[u8], masks: &[u64; 256], named: &mut [u16; 256]) -> Refusal
+    requires { ⌜ AfterConditions (tableOf h (now ts) (now cs)) (now masks) × Children (now ts) 0 (now named) ⌝ }
+    ensures { λ r. ⌜ r ≡ checked refuse (refuse 0 0) (from5 (tableOf h (now (ts .entry)) (now (cs .entry)))) ⌝ }
+{
+    let n = h.n;
+    let mut notes = Notes {
+        linked: 0,
+        twice: 0,
+        join: n,
+    };
+    let mut i = 0;
+    while i < n {
+        let times = named[i];
+        if times != 1 {
+            return judge_tree(h, ts, cs, i);
+        }
+        let at = i * 4;
+        let kind = ts[at];
+        let a = ts[at + 1];
+        let b = ts[at + 2];
+        let c = ts[at + 3];
+        if !term_row(h.m, n, h.k, i, kind, wide(a), wide(b), wide(c)) {
+            return Refusal {
+                number: 5,
+                place: i,
+            };
+        }
+        notes = note_links(notes, n, i, kind, a, masks);
+        note_children(named, kind, a, b, c);
+        i += 1;
+    }
+    judge_sources(h, ts, cs, notes)
+}
+
+// Check 5 and on. Row 0 counts as named, being the root.
 fn judge_terms(h: Head, ts: &[u8], cs: &[u8], masks: &[u64; 256]) -> Refusal
     requires { ⌜ AfterConditions (tableOf h (now ts) (now cs)) (now masks) ⌝ }
     ensures { λ r. ⌜ r ≡ checked refuse (refuse 0 0) (from5 (tableOf h (now (ts .entry)) (now (cs .entry)))) ⌝ }
 {
     let mut named = [0; 256];
-    let mut out = [0; 256];
-    let end = h.n;
-    let place = bad_term(h.m, h.n, h.k, ts, &mut named, &mut out);
-    if place < end {
-        return Refusal { number: 5, place };
-    }
-    judge_tree(h, ts, cs, masks, &named, &out)
+    named[0] = 1;
+    judge_rows(h, ts, cs, masks, &mut named)
 }
 
 // Check 4 and on.

@@ -3,7 +3,7 @@ use Prim.Native.Nat.{ℕ, _+_, _-_, _<_, _≤_}
 use mathlib.Core.Path.{_≡_, refl, sym, _∙_, ap}
 use mathlib.Core.Bool.{true, false, cond}
 use mathlib.Core.List.{List, [], _∷_, _++_}
-use mathlib.Core.Logic.{by-cases}
+use mathlib.Core.Logic.{_⊎_, inl, inr, ⊎-elim, by-cases}
 use native.Mathlib.Omega.{arith}
 use native.Mathlib.Decide.{decLt}
 use lib.Dec.{ltb}
@@ -11,7 +11,7 @@ use borrow.Author.Tests.{lt-ltb, le-ltb}
 use Rattle.laws.specs.Lowest.{lowest}
 use Rattle.laws.specs.Checks.{Check, placeOf, Holds, checked, AllHold}
 use Rattle.laws.proofs.Tests.{not-both, cond-map}
-use Rattle.laws.proofs.Lowest.{lowest-from, lowest-at, lowest-below, lowest-more, lowest-stop, lowest-end}
+use Rattle.laws.proofs.Lowest.{lowest-from, lowest-at, lowest-below, lowest-none, lowest-is, lowest-more, lowest-stop, lowest-end}
 
 module _ {A : Type 0} (refuse : ℕ → ℕ → A) (good : A) (c : Check) (cs : List Check) (p : ℕ) (at : p ≡ placeOf c) where
   pub checked-fails : p < c .upto → refuse (c .number) p ≡ checked refuse good (c ∷ cs)
@@ -33,6 +33,16 @@ pub place-holds : (c : Check) (p : ℕ) → p ≡ placeOf c → c .upto ≤ p �
 unfolding placeOf
 place-holds c p at h q low high = lowest-below (c .rule) (c .from) (c .upto - c .from) q low (omega arith)
 
+-- the place below which the rule is met and at which it is not
+pub place-is : (c : Check) (i : ℕ) → c .from ≤ i → ((p : ℕ) → c .from ≤ p → p < i → c .rule p ≡ true) → i < c .upto → c .rule i ≡ false → i ≡ placeOf c
+unfolding placeOf
+place-is c i g f h e = sym (lowest-is (c .rule) (c .from) (c .upto - c .from) i g f (omega arith) e)
+
+-- ... and the end, where it is met throughout
+pub place-end : (c : Check) → c .from ≤ c .upto → Holds c → c .upto ≡ placeOf c
+unfolding placeOf
+place-end c g h = let e : lowest (c .rule) (c .from) (c .upto - c .from) ≡ c .from + (c .upto - c .from) = lowest-none (c .rule) (c .from) (c .upto - c .from) (λ p a b. h p a (omega arith)) in omega arith
+
 -- A scan that has come to place i: nothing below i broke the rule. The invariant of every check's loop, and its four laws.
 unfoldable pub Scanned : Check → ℕ → Type 0
 Scanned c i = placeOf c ≡ lowest (c .rule) i (c .upto - i)
@@ -53,6 +63,31 @@ module _ (c : Check) (i : ℕ) (s : Scanned c i) where
   pub scanned-end : c .upto ≤ i → i ≡ placeOf c
   unfolding Scanned
   scanned-end h = sym (s ∙ lowest-end (c .rule) i (c .upto) h)
+
+-- A pass that has come to place i and has noted p, the first place that broke the rule, or the end. Its laws.
+unfoldable pub Noted : Check → ℕ → ℕ → Type 0
+Noted c i p = (Scanned c i × (p ≡ c .upto)) ⊎ ((p ≡ placeOf c) × (p < c .upto))
+
+pub noted-none : (c : Check) → Noted c (c .from) (c .upto)
+unfolding Noted
+noted-none c = inl (scanned-none c, refl)
+
+module _ (c : Check) (i p : ℕ) (s : Noted c i p) where
+  pub noted-more : i < c .upto → c .rule i ≡ true → Noted c (i + 1) p
+  unfolding Noted
+  noted-more h e = ⊎-elim (λ g. inl (scanned-more c i (g .0) h e, g .1)) (λ g. inr g) s
+
+  pub noted-before : p < c .upto → Noted c (i + 1) p
+  unfolding Noted
+  noted-before h = ⊎-elim (λ g. absurd (let z : ⊥ = omega (arith, g .1) in z)) (λ g. inr g) s
+
+  pub noted-here : c .upto ≤ p → i < c .upto → c .rule i ≡ false → Noted c (i + 1) i
+  unfolding Noted
+  noted-here k h e = ⊎-elim (λ g. inr (scanned-stop c i (g .0) h e, h)) (λ g. absurd (let z : ⊥ = omega (arith, g .1) in z)) s
+
+  pub noted-end : i ≡ c .upto → p ≡ placeOf c
+  unfolding Noted
+  noted-end e = ⊎-elim (λ g. (g .1 ∙ sym e) ∙ scanned-end c i (g .0) (omega arith)) (λ g. g .0) s
 
 -- the answer of one call in the words of another
 pub checked-map : {A B : Type 0} (f : A → B) (refuse : ℕ → ℕ → A) (good : A) (cs : List Check) → f (checked refuse good cs) ≡ checked (λ n p. f (refuse n p)) (f good) cs

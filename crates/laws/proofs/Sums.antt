@@ -19,6 +19,15 @@ unfolding sum
 sum-same f g zero h = refl
 sum-same f g (suc n) h = ap₂ _+_ (sum-same f g n (λ i l. h i (omega arith))) (h n (omega arith))
 
+-- what adds nothing changes no sum
+pub sum-later : (f : ℕ → ℕ) (a n : ℕ) → a ≤ n → ((i : ℕ) → a ≤ i → i < n → f i ≡ 0) → sum f n ≡ sum f a
+unfolding sum
+sum-later f a zero h none = let e : a ≡ 0 = omega arith in rw e
+sum-later f a (suc n) h none =
+    by-cases (ℕ-discrete a (suc n))
+    (λ (e : a ≡ suc n). rw e)
+    (λ e. omega (arith, none n (omega arith) (omega arith), sum-later f a n (omega arith) (λ i g k. none i g (omega arith))))
+
 -- each part of a sum is in it, and two different parts are
 pub sum-has : (f : ℕ → ℕ) (n i : ℕ) → i < n → f i ≤ sum f n
 unfolding sum

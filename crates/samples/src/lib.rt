@@ -1,4 +1,5 @@
 // Rows of terms and conditions to try the calls on. A row that was not put is four zeros: NIL, or FALSE.
+ghost use Prim.Native.Nat.{_<_};
 
 pub fn put_row(rows: &mut [u8; 1024], row: u8, kind: u8, a: u8, b: u8, c: u8) {
     let at = row as usize * 4;
@@ -67,9 +68,64 @@ pub fn put_typical(ts: &mut [u8; 1024], cs: &mut [u8; 1024]) {
     put_row(ts, 21, 0, 0, 0, 0);
 }
 
-// The largest: 256 rows, an OUT row for each of 64 links among them, and 256 conditions.
+// A row of the largest sheet that has the next row as its child: ACT, OUT, JOIN, ACT.
+fn put_step(rows: &mut [u8; 1024], row: u8)
+    requires { ⌜ row < 255 ⌝ }
+{
+    let next = row + 1;
+    match row % 4 {
+        1 => put_row(rows, row, 2, row / 4, 1, next),
+        2 => put_row(rows, row, 3, next, next, 0),
+        _ => put_row(rows, row, 1, row, next, 0),
+    }
+}
+
+// Each sixteen rows are a PICK or FLOW, fourteen steps and NIL: the steps are the left branch, the next sixteen rows the right one. The last sixteen have nothing to branch to.
+fn put_largest_term(rows: &mut [u8; 1024], row: u8)
+    requires { ⌜ row < 255 ⌝ }
+{
+    if 240 <= row {
+        put_step(rows, row);
+        return;
+    }
+    match row % 16 {
+        0 => put_row(rows, row, 4 + row / 16 % 2, row + 1, row + 16, 0),
+        15 => put_row(rows, row, 0, 0, 0, 0),
+        _ => put_step(rows, row),
+    }
+}
+
+fn put_largest_terms(rows: &mut [u8; 1024]) {
+    let mut row = 0;
+    while row < 255 {
+        put_largest_term(rows, row);
+        row += 1;
+    }
+}
+
+// A LINK row, and an operator over it and the operator before. Each eight pairs begin anew, so no row reaches more than 8 links.
+fn put_pair(rows: &mut [u8; 1024], pair: u8)
+    requires { ⌜ pair < 128 ⌝ }
+{
+    let row = pair * 2;
+    put_row(rows, row, 2, pair % 64, 0, 0);
+    if pair % 8 == 0 {
+        put_row(rows, row + 1, 3 + pair % 4, row, row, 0);
+        return;
+    }
+    put_row(rows, row + 1, 3 + pair % 4, row, row - 1, 0);
+}
+
+fn put_largest_conditions(rows: &mut [u8; 1024]) {
+    let mut pair = 0;
+    while pair < 128 {
+        put_pair(rows, pair);
+        pair += 1;
+    }
+}
+
+// The largest: 256 rows, among them 64 OUT rows, one for each link, 64 JOIN rows and 15 branchings; 256 conditions, half of them LINK rows.
 pub fn put_largest(ts: &mut [u8; 1024], cs: &mut [u8; 1024]) {
-    put_outs(ts, 0, 64);
-    put_acts(ts, 64, 255);
-    put_links(cs, 64);
+    put_largest_terms(ts);
+    put_largest_conditions(cs);
 }

@@ -1,33 +1,37 @@
-use borrow.Author.Tests.{lt-ltb, le-ltb}
-use Rattle.laws.specs.Tally.{bumped}
+use mathlib.Core.Path.{refl}
+use Rattle.judge.specs.Judge.{bumped}
 use borrow.Author.Needs.{needs}
 use Rattle.judge.proofs.bump.Statement.{statement}
 use Rattle.judge.proofs.bump.Tie as tie
 use Rattle.judge.proofs.bump.Reads as reads
 use Rattle.judge.proofs.bump.Lts as lts
 
--- src/lib.rt:135:13
+-- src/lib.rt:119:13
+mul-x : tie.Need-mul-x
+mul-x c = search needs
+
+-- src/lib.rt:119:13
 element-copy-out-x : tie.Need-element-copy-out-x
 element-copy-out-x c = search needs
 
--- src/lib.rt:137:32
+-- src/lib.rt:120:28
 add-counts : tie.Need-add-counts
 add-counts c = search needs
 
--- src/lib.rt:137:9
+-- src/lib.rt:120:5
+mul-counts : tie.Need-mul-counts
+mul-counts c = search needs
+
+-- src/lib.rt:120:5
 element-write-counts : tie.Need-element-write-counts
 element-write-counts c = search needs
 
--- src/lib.rt:132:1
+-- src/lib.rt:115:1
 returns : tie.Need-returns
 unfolding bumped
-returns c = rw (lt-ltb _ 2 (c .if1 .taken))
-
--- src/lib.rt:132:1
-returns-2 : tie.Need-returns-2
-unfolding bumped
-returns-2 c = rw (le-ltb _ 2 (c .if1 .left))
+returns c = refl
 
 pub bump-spec : {M : Type 1} → statement M
 bump-spec =
-    tie.close (tie.spec element-copy-out-x add-counts element-write-counts returns returns-2)
+    tie.close
+    (tie.spec mul-x element-copy-out-x add-counts mul-counts element-write-counts returns)

@@ -5,7 +5,7 @@ use Rattle.judge.proofs.child.Tie as tie
 use Rattle.judge.proofs.child.Reads as reads
 use Rattle.judge.proofs.child.Lts as lts
 
--- src/lib.rt:86:1
+-- src/lib.rt:85:1
 returns : tie.Need-returns
 unfolding childOk
 returns c = search needs

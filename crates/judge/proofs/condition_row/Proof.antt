@@ -1,3 +1,7 @@
+use native.Mathlib.Omega.{arith}
+use native.Mathlib.Decide.{ℕ-discrete}
+use mathlib.Core.Logic.{by-cases}
+use mathlib.Core.Path.{_≡_, refl}
 use borrow.Author.Tests.{ne-eqb}
 use Rattle.sheet.specs.Rules.{conditionRule}
 use Rattle.judge.proofs.condition_row.Statement.{statement}
@@ -5,26 +9,21 @@ use Rattle.judge.proofs.condition_row.Tie as tie
 use Rattle.judge.proofs.condition_row.Reads as reads
 use Rattle.judge.proofs.condition_row.Lts as lts
 
--- src/lib.rt:43:1
+-- src/lib.rt:45:9
 returns : tie.Need-returns
 unfolding conditionRule
-returns c = rw (c .match .keys1)
+returns c = let k = c .before .args .kind in
+    rw (ne-eqb k 0 (λ e. omega arith), ne-eqb k 1 (λ e. omega arith), ne-eqb k 2 (λ e. omega arith)) refl
 
--- src/lib.rt:43:1
+-- src/lib.rt:48:9
 returns-2 : tie.Need-returns-2
 unfolding conditionRule
-returns-2 c = rw (c .match .keys2)
+returns-2 c = rw (c .if2 .taken) refl
 
--- src/lib.rt:43:1
+-- src/lib.rt:41:1
 returns-3 : tie.Need-returns-3
 unfolding conditionRule
-returns-3 c = rw (c .match .keys3)
-
--- src/lib.rt:43:1
-returns-4 : tie.Need-returns-4
-unfolding conditionRule
-returns-4 c = let m = c .match .rest in
-    rw (ne-eqb _ 0 (m .0 .0 .1), ne-eqb _ 1 (m .0 .1), ne-eqb _ 2 (m .1))
+returns-3 c = by-cases (ℕ-discrete (c .before .before .args .kind) 0) (λ e. rw e refl) (λ e. let q : c .before .before .args .kind ≡ 1 = omega arith in rw q refl)
 
 pub condition-row-spec : {M : Type 1} → statement M
-condition-row-spec = tie.close (tie.spec returns returns-2 returns-3 returns-4)
+condition-row-spec = tie.close (tie.spec returns returns-2 returns-3)

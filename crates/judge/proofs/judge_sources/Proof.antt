@@ -1,28 +1,29 @@
+use native.Mathlib.Omega.{arith}
 use mathlib.Core.Path.{_∙_}
-use Rattle.judge.proofs.Chain.{fails, holds}
+use lib.Count.{trailing-le}
+use Rattle.judge.proofs.Links.{sources-hold, sources-fail}
+use Rattle.judge.proofs.Chain.{fails, holds-all}
 use Rattle.judge.proofs.judge_sources.Statement.{statement}
 use Rattle.judge.proofs.judge_sources.Tie as tie
 use Rattle.judge.proofs.judge_sources.Reads as reads
 use Rattle.judge.proofs.judge_sources.Lts as lts
-use Rattle.judge.proofs.bad_source.Reads as bad-source-reads
 use Rattle.judge.proofs.judge_joins.Reads as judge-joins-reads
 
--- src/lib.rt:263:9
-bad-source-requires : tie.Need-bad-source-requires
-bad-source-requires c κs = (c .before .before .pre .0 .before .few-links, c .before .before .pre .1)
+-- src/lib.rt:219:17
+cast-place : tie.Need-cast-place
+cast-place c = omega (arith, trailing-le 64 (c .before .before .before .args .notes .twice))
 
--- src/lib.rt:265:9
+-- src/lib.rt:221:9
 returns : tie.Need-returns
-returns c = fails _ _ _ (c .before .bad-source .ensures) (c .if1 .taken)
+returns c = let p = c .before .before .before .before .pre in fails _ _ _ (sources-fail _ _ _ _ (p .few-links) (p .doubled) (c .if1 .taken)) (c .if1 .taken)
 
--- src/lib.rt:267:5
+-- src/lib.rt:223:5
 judge-joins-requires : tie.Need-judge-joins-requires
-judge-joins-requires c κs = c .before .before .before .before .pre .0
+judge-joins-requires c κs = c .before .before .before .before .pre .joined
 
--- src/lib.rt:258:1
+-- src/lib.rt:214:1
 returns-2 : tie.Need-returns-2
-returns-2 c = c .judge-joins .ensures ∙ holds _ _ _ (c .before .before .bad-source .ensures) (c .before .if1 .left)
+returns-2 c = let p = c .before .before .before .before .before .pre in c .judge-joins .ensures ∙ holds-all _ _ (sources-hold _ _ _ _ (p .few-links) (p .doubled) (c .before .if1 .left))
 
 pub judge-sources-spec : {M : Type 1} → statement M
-judge-sources-spec =
-    tie.close (tie.spec bad-source-requires returns judge-joins-requires returns-2)
+judge-sources-spec = tie.close (tie.spec cast-place returns judge-joins-requires returns-2)

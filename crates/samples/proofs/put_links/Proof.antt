@@ -12,55 +12,55 @@ Inv-loop rows₀ count link₀ row₀ rows link row = Unit {0}
 abbrev μ-loop : tie.MeasureT-loop
 μ-loop rows₀ count link₀ row₀ rows link row = count - link
 
--- src/lib.rt:36:5
+-- src/lib.rt:37:5
 put-row-requires : tie.Need-put-row-requires Inv-loop μ-loop
 put-row-requires c κs = search needs
 
--- src/lib.rt:39:5
+-- src/lib.rt:40:5
 loop-holds : tie.Need-loop-holds Inv-loop μ-loop
 loop-holds c = search needs
 
--- src/lib.rt:41:13
+-- src/lib.rt:42:13
 returns : tie.Need-returns Inv-loop μ-loop
 returns c = search needs
 
--- src/lib.rt:43:23
+-- src/lib.rt:44:23
 add-put-row : tie.Need-add-put-row Inv-loop μ-loop
 add-put-row c = search needs
 
--- src/lib.rt:43:9
+-- src/lib.rt:44:9
 put-row-requires-2 : tie.Need-put-row-requires-2 Inv-loop μ-loop
 put-row-requires-2 c κs = search needs
 
--- src/lib.rt:44:23
+-- src/lib.rt:45:23
 add-put-row-2 : tie.Need-add-put-row-2 Inv-loop μ-loop
 add-put-row-2 c = search needs
 
--- src/lib.rt:44:40
+-- src/lib.rt:45:40
 add-put-row-3 : tie.Need-add-put-row-3 Inv-loop μ-loop
 add-put-row-3 c = search needs
 
--- src/lib.rt:44:9
+-- src/lib.rt:45:9
 put-row-requires-3 : tie.Need-put-row-requires-3 Inv-loop μ-loop
 put-row-requires-3 c κs = search needs
 
--- src/lib.rt:45:9
+-- src/lib.rt:46:9
 add-row : tie.Need-add-row Inv-loop μ-loop
 add-row c = search needs
 
--- src/lib.rt:46:9
+-- src/lib.rt:47:9
 add-link : tie.Need-add-link Inv-loop μ-loop
 add-link c = search needs
 
--- src/lib.rt:39:5
+-- src/lib.rt:40:5
 loop-less : tie.Need-loop-less Inv-loop μ-loop
 loop-less c = search needs
 
--- src/lib.rt:39:5
+-- src/lib.rt:40:5
 loop-again : tie.Need-loop-again Inv-loop μ-loop
 loop-again c = search needs
 
--- src/lib.rt:35:1
+-- src/lib.rt:36:1
 returns-2 : tie.Need-returns-2 Inv-loop μ-loop
 returns-2 c = search needs
 

@@ -12,39 +12,39 @@ Inv-loop rows₀ first count link₀ row₀ rows link row = Unit {0}
 abbrev μ-loop : tie.MeasureT-loop
 μ-loop rows₀ first count link₀ row₀ rows link row = count - link
 
--- src/lib.rt:24:5
+-- src/lib.rt:25:5
 loop-holds : tie.Need-loop-holds Inv-loop μ-loop
 loop-holds c = search needs
 
--- src/lib.rt:26:13
+-- src/lib.rt:27:13
 returns : tie.Need-returns Inv-loop μ-loop
 returns c = search needs
 
--- src/lib.rt:28:40
+-- src/lib.rt:29:40
 add-put-row : tie.Need-add-put-row Inv-loop μ-loop
 add-put-row c = search needs
 
--- src/lib.rt:28:9
+-- src/lib.rt:29:9
 put-row-requires : tie.Need-put-row-requires Inv-loop μ-loop
 put-row-requires c κs = search needs
 
--- src/lib.rt:29:9
+-- src/lib.rt:30:9
 add-row : tie.Need-add-row Inv-loop μ-loop
 add-row c = search needs
 
--- src/lib.rt:30:9
+-- src/lib.rt:31:9
 add-link : tie.Need-add-link Inv-loop μ-loop
 add-link c = search needs
 
--- src/lib.rt:24:5
+-- src/lib.rt:25:5
 loop-less : tie.Need-loop-less Inv-loop μ-loop
 loop-less c = search needs
 
--- src/lib.rt:24:5
+-- src/lib.rt:25:5
 loop-again : tie.Need-loop-again Inv-loop μ-loop
 loop-again c = search needs
 
--- src/lib.rt:21:1
+-- src/lib.rt:22:1
 returns-2 : tie.Need-returns-2 Inv-loop μ-loop
 returns-2 c = search needs
 
