@@ -1,0 +1,4 @@
+pub mod Calls
+pub mod Alike
+pub mod Fresh
+pub mod Demand3
