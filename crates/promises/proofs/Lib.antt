@@ -2,3 +2,4 @@ pub mod Calls
 pub mod Alike
 pub mod Fresh
 pub mod Demand3
+pub mod Cases
