@@ -264,9 +264,13 @@ has-kind N r none = refl
 has-kind N r (some takes) = taken-is-step (kindBy N) (kind-by N)
 has-kind N r (some drops) = refl
 
+pub kind-step : (t : Table) (s : State) (r : ℕ) → isStep (kindAt t s r) ≡ hasStep t s r
+unfolding kindAt hasStep
+kind-step t s r = has-kind (nodes t r) r (turnAt t s r)
+
 pub list-known : (t : Table) → WellFormed t → (s : State) (seen vals : List ℕ) → Knows t s seen vals → listed (stepFrom (t .terms) (t .n) (s .mode) (s .marks) seen vals) 0 (t .n) ≡ listedOf t s
-unfolding stepFrom listedOf hasStep kindAt
-list-known t w s seen vals k = listed-same _ (hasStep t s) 0 (t .n) (λ r a b. ap isStep (kind-known t w s seen vals k r) ∙ has-kind (nodes t r) r (turnAt t s r))
+unfolding stepFrom listedOf
+list-known t w s seen vals k = listed-same _ (hasStep t s) 0 (t .n) (λ r a b. ap isStep (kind-known t w s seen vals k r) ∙ kind-step t s r)
 
 -- a buffer with room, and one without
 pub written-fits : (xs lent after : List ℕ) → length xs ≤ length lent → after ≡ xs ++ drop (length xs) lent → after ≡ written xs lent
