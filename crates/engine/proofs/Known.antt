@@ -32,7 +32,7 @@ use Rattle.state.specs.declared.State.{State}
 use Rattle.state.specs.declared.StepKind.{StepKind}
 use Rattle.state.specs.declared.StepKind.the-variants.{Act, Set, Open, Clean, Refused}
 use Rattle.moves.specs.Steps.{modeOf, marksOf, linksOf, nodes, turnBy, turnAt, kindOf, kindBy, kindTurned, kindAt, hasStep, isSome, listedOf, steppedBy, steppedOf, takenOf, droppedOf}
-use Rattle.front.specs.Asked.{nextOf, topOf, askedAt, Shows}
+use Rattle.front.specs.Asked.{nextBy, nextOf, topOf, askedAt, Shows}
 use Rattle.front.proofs.Asking.{bit-one}
 use Rattle.effects.specs.Gather.{OwnBelow}
 use Rattle.engine.specs.ByValue.{joinKind, prefixKind, rowKind, kindFrom, isStep, stepFrom, takenAnswer}
@@ -101,7 +101,7 @@ same-kind r mode (PREFIX (join q) c) f g h = ap (joinKind r mode) (h q c refl)
 same-kind r mode (BRANCH κ p q) f g h = refl
 
 asked-reached : (node : ℕ → Row) (μ : Marks) (j : ℕ) → askedAt 0 node μ j ≡ reached node μ j
-unfolding askedAt nextOf topOf reached
+unfolding askedAt nextOf nextBy topOf reached
 asked-reached node μ j = refl
 
 value-known : (t : Table) (s : State) (vals : List ℕ) (q : ℕ) → t .k ≤ 256 → q < t .k → Evaluated (t .evaluation) (t .conditions) (linksOf s) (t .k) vals → getD vals q 0 ≡ digit (evalIn t q (linksOf s))
@@ -258,15 +258,19 @@ clean-needs t w s r e =
     (h, front-clean r (s .mode) (t .n) (nodes t r) (λ q. digit (evalIn t q (linksOf s))) (ltb r (t .n) && reached (nodes t) (marksOf s) r && waitingStep (nodes t r) (marksOf s r)) (w .tree .kids r h) (sym (kind-from t s r) ∙ sym e))
 
 -- a row has a step exactly if its kind is one
-has-kind : (N : Row) (r : ℕ) (o : Option Turn) → isStep (kindTurned N r o) ≡ isSome o
+pub has-kind : (N : Row) (r : ℕ) (o : Option Turn) → isStep (kindTurned N r o) ≡ isSome o
 unfolding kindTurned
 has-kind N r none = refl
 has-kind N r (some takes) = taken-is-step (kindBy N) (kind-by N)
 has-kind N r (some drops) = refl
 
+pub kind-step : (t : Table) (s : State) (r : ℕ) → isStep (kindAt t s r) ≡ hasStep t s r
+unfolding kindAt hasStep
+kind-step t s r = has-kind (nodes t r) r (turnAt t s r)
+
 pub list-known : (t : Table) → WellFormed t → (s : State) (seen vals : List ℕ) → Knows t s seen vals → listed (stepFrom (t .terms) (t .n) (s .mode) (s .marks) seen vals) 0 (t .n) ≡ listedOf t s
-unfolding stepFrom listedOf hasStep kindAt
-list-known t w s seen vals k = listed-same _ (hasStep t s) 0 (t .n) (λ r a b. ap isStep (kind-known t w s seen vals k r) ∙ has-kind (nodes t r) r (turnAt t s r))
+unfolding stepFrom listedOf
+list-known t w s seen vals k = listed-same _ (hasStep t s) 0 (t .n) (λ r a b. ap isStep (kind-known t w s seen vals k r) ∙ kind-step t s r)
 
 -- a buffer with room, and one without
 pub written-fits : (xs lent after : List ℕ) → length xs ≤ length lent → after ≡ xs ++ drop (length xs) lent → after ≡ written xs lent

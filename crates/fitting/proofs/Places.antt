@@ -1,22 +1,51 @@
 -- The rule of a check at one place, as the code answers it. Assumes nothing.
-use Prim.Native.Nat.{ℕ, _<_}
+use Prim.Native.Nat.{ℕ, _+_, _-_, _<_, _≤_}
 use mathlib.Core.Path.{_≡_, refl, sym, _∙_, ap}
-use mathlib.Core.Bool.{Bool, not, cond}
+use mathlib.Core.Bool.{Bool, true, _&&_, not, cond}
 use mathlib.Core.List.{List}
+use mathlib.Core.Logic.{by-cases}
+use native.Mathlib.Omega.{arith}
+use native.Mathlib.Decide.{ℕ-discrete}
 use lib.Dec.{eqb, ltb, leb}
 use lib.ListN.{getD}
+use borrow.Author.Tests.{lt-ltb, le-ltb}
 use Rattle.laws.specs.Tests.{or}
+use Rattle.laws.specs.Checks.{Holds, placeOf}
+use Rattle.laws.proofs.Tests.{and-l, and-r}
+use Rattle.laws.proofs.Lowest.{lowest-same, lowest-none}
+use Rattle.laws.proofs.Checks.{Scanned}
 use Rattle.calculus.specs.Places.{Mode}
 use Rattle.steps.specs.Marks.{Marks}
 use Rattle.steps.specs.InFront.{waiting}
 use Rattle.sheet.specs.Table.{rowAt}
-use Rattle.moves.specs.Fits.{suits, markOk, linkOk, held, waitOk, live, clearRow, clearOk}
-use Rattle.front.specs.Asked.{nextOf, topOf, askedAt, Shows}
+use Rattle.moves.specs.Fits.{suits, marksFit, markOk, linkOk, held, waitOk, live, clearRow, clearOk}
+use Rattle.front.specs.Asked.{nextBy, nextOf, topOf, askedAt, Shows}
 use Rattle.front.proofs.Asking.{bit-one}
+use Rattle.fitting.specs.Checks.{restFit}
 
-pub mark-read : (ts : List ℕ) (n : ℕ) (m : Mode) (μ : Marks) (i : ℕ) (r : Bool) → r ≡ cond (ltb i n) (suits m (rowAt ts i) (μ i)) (eqb (μ i) 0) → markOk ts n m μ i ≡ r
-unfolding markOk
-mark-read ts n m μ i r e = sym e
+module _ (ts : List ℕ) (n : ℕ) (m : Mode) (μ : Marks) where
+  pub mark-read : (i : ℕ) (r : Bool) → i < n → r ≡ suits m (rowAt ts i) (μ i) → markOk ts n m μ i ≡ r
+  unfolding markOk
+  mark-read i r h e = rw (lt-ltb i n h) (sym e)
+
+  -- where the marks below n suit, the place is that of the rest
+  pub rest-read : Scanned (marksFit ts n m μ) n → placeOf (restFit n μ) ≡ placeOf (marksFit ts n m μ)
+  unfolding Scanned placeOf markOk
+  rest-read s = sym (s ∙ lowest-same (markOk ts n m μ) (λ k. eqb (μ k) 0) n (256 - n) (λ k low high. rw (le-ltb k n low) refl))
+
+-- the rows from n to a row have no mark, or one of them has
+abbrev pub Unmarked : List ℕ → ℕ → ℕ → Bool → Type 0
+Unmarked marks n row none = none ≡ true → (k : ℕ) → n ≤ k → k < row → eqb (getD marks k 0) 0 ≡ true
+
+pub unmarked-more : (marks : List ℕ) (n row : ℕ) (none : Bool) → Unmarked marks n row none → Unmarked marks n (row + 1) (none && eqb (getD marks row 0) 0)
+unmarked-more marks n row none f e k low high =
+    by-cases (ℕ-discrete k row)
+    (λ z. rw z (and-r none _ e))
+    (λ z. f (and-l none _ e) k low (omega arith))
+
+pub rest-all : (n : ℕ) (μ : Marks) → n ≤ 256 → Holds (restFit n μ) → 256 ≡ placeOf (restFit n μ)
+unfolding placeOf
+rest-all n μ h f = sym (lowest-none (λ k. eqb (μ k) 0) n (256 - n) (λ k low high. f k low (omega arith)) ∙ omega arith)
 
 pub link-read : (m : ℕ) (links : List ℕ) (l : ℕ) (r : Bool) → r ≡ cond (ltb l m) (leb (getD links l 0) 2) (eqb (getD links l 0) 0) → linkOk m links l ≡ r
 unfolding linkOk
@@ -27,11 +56,11 @@ shown : (v : ℕ → Bool) (n : ℕ) (t : List ℕ) (i : ℕ) → Shows v n t �
 shown v n t i s h = ap (λ (x : ℕ). eqb x 1) (s .at i h) ∙ bit-one (v i)
 
 asked-held : (ts : List ℕ) (μ : Marks) (i : ℕ) → askedAt 1 (rowAt ts) μ i ≡ held ts μ i
-unfolding askedAt nextOf topOf held
+unfolding askedAt nextOf nextBy topOf held
 asked-held ts μ i = refl
 
 asked-live : (ts : List ℕ) (μ : Marks) (i : ℕ) → askedAt 2 (rowAt ts) μ i ≡ live ts μ i
-unfolding askedAt nextOf topOf live
+unfolding askedAt nextOf nextBy topOf live
 asked-live ts μ i = refl
 
 module _ (ts : List ℕ) (μ : Marks) (n : ℕ) (t : List ℕ) (i : ℕ) (h : i < n) (r : Bool) where

@@ -1,18 +1,18 @@
 // Does a state fit a table? Each check has a function of its own; the chain of the last five is the order of the checks.
 ghost use mathlib.Core.Path.{_≡_};
-ghost use Prim.Native.Nat.{ℕ, _+_, _*_, _<_, _≤_};
-ghost use mathlib.Core.Bool.{cond, not};
+ghost use Prim.Native.Nat.{_+_, _*_, _<_, _≤_};
+ghost use mathlib.Core.Bool.{true, cond, not};
 ghost use lib.Dec.{eqb, ltb, leb};
 ghost use lib.ListN.{length, getD};
 ghost use Rattle.laws.specs.Tests.{or};
-ghost use Rattle.laws.specs.Checks.{placeOf, checked};
+ghost use Rattle.laws.specs.Checks.{Holds, placeOf, checked};
 ghost use Rattle.steps.specs.Rows.{Tree};
 ghost use Rattle.steps.specs.InFront.{waiting};
 ghost use Rattle.sheet.specs.Table.{rowAt};
 ghost use Rattle.sheet.specs.Rules.{refuse};
 ghost use Rattle.moves.specs.Steps.{modeOf};
 ghost use Rattle.moves.specs.Fits.{suits, clearRow, marksFit, linksFit, waitsFit, clearFit};
-ghost use Rattle.fitting.specs.Checks.{fromD, fromC, fromB, fromA, stateChecks};
+ghost use Rattle.fitting.specs.Checks.{restFit, fromD, fromC, fromB, fromA, stateChecks};
 use sheet::Refusal;
 use state::State;
 
@@ -34,16 +34,6 @@ fn suits(mode: u8, ts: &[u8], row: usize, mark: u8) -> bool
         4 => (mark == 0) | ((mark == 2) | (mark == 3)),
         _ => mark == 0,
     }
-}
-
-fn mark_ok(mode: u8, ts: &[u8], n: usize, row: usize, mark: u8) -> bool
-    requires { ⌜ n * 4 ≤ length (now ts) ⌝ }
-    ensures { λ r. ⌜ r ≡ cond (ltb row n) (suits (modeOf mode) (rowAt (now (ts .entry)) row) mark) (eqb mark 0) ⌝ }
-{
-    if row < n {
-        return suits(mode, ts, row, mark);
-    }
-    mark == 0
 }
 
 // (b) the link's value.
@@ -112,19 +102,50 @@ fn clear_ok(live: u8, ts: &[u8], row: usize, mark: u8, links: &[u8; 64]) -> bool
     true
 }
 
-// 10 (a): the lowest row whose mark does not suit.
-fn bad_mark(mode: u8, ts: &[u8], n: usize, marks: &[u8; 256]) -> usize
-    requires { ⌜ n * 4 ≤ length (now ts) ⌝ }
-    ensures { λ r. ⌜ r ≡ placeOf (marksFit (now (ts .entry)) n (modeOf mode) (λ k. getD (now (marks .entry)) k 0)) ⌝ }
+// No row from n on has a mark. The loop has one end, so that it can take many marks at once.
+fn unmarked_from(marks: &[u8; 256], n: usize) -> bool
+    ensures { λ r. ⌜ (r ≡ true → Holds (restFit n (λ k. getD (now (marks .entry)) k 0))) ⌝ }
 {
-    let mut row = 0;
+    let mut none = true;
+    let mut row = n;
     while row < 256 {
-        if !mark_ok(mode, ts, n, row, marks[row]) {
+        none = none & (marks[row] == 0);
+        row += 1;
+    }
+    none
+}
+
+// 10 (a), from row n on.
+fn bad_rest(marks: &[u8; 256], n: usize) -> usize
+    requires { ⌜ n ≤ 256 ⌝ }
+    ensures { λ r. ⌜ r ≡ placeOf (restFit n (λ k. getD (now (marks .entry)) k 0)) ⌝ }
+{
+    if unmarked_from(marks, n) {
+        return 256;
+    }
+    let mut row = n;
+    while row < 256 {
+        if marks[row] != 0 {
             return row;
         }
         row += 1;
     }
     row
+}
+
+// 10 (a): the lowest row whose mark does not suit.
+fn bad_mark(mode: u8, ts: &[u8], n: usize, marks: &[u8; 256]) -> usize
+    requires { ⌜ (n * 4 ≤ length (now ts)) × (n ≤ 256) ⌝ }
+    ensures { λ r. ⌜ r ≡ placeOf (marksFit (now (ts .entry)) n (modeOf mode) (λ k. getD (now (marks .entry)) k 0)) ⌝ }
+{
+    let mut row = 0;
+    while row < n {
+        if !suits(mode, ts, row, marks[row]) {
+            return row;
+        }
+        row += 1;
+    }
+    bad_rest(marks, n)
 }
 
 // 10 (b): the lowest link whose value does not suit.

@@ -30,13 +30,10 @@ module _ (q : ℕ) (node : ℕ → Row) (μ : Marks) (n : ℕ) (tree : Tree node
   unfolding askedAt
   asked-own i t h p = ap (λ (x : ℕ). eqb x 1) (pushed-own node n tree few (topOf q) (λ p s b. nextOf q (node p) (μ p) s b) i t h p) ∙ bit-one _
 
-  more : (i : ℕ) (t t′ : List ℕ) → i < n → Pushed node (askedAt q node μ) n i t → t′ ≡ handed t (node i) (nextOf q (node i) (μ i) false (askedAt q node μ i)) (nextOf q (node i) (μ i) true (askedAt q node μ i)) → Pushed node (askedAt q node μ) n (i + 1) t′
+  pub asked-more : (i : ℕ) (t t′ : List ℕ) → i < n → Pushed node (askedAt q node μ) n i t →
+      t′ ≡ handed t (node i) (nextOf q (node i) (μ i) false (eqb (getD t i 0) 1)) (nextOf q (node i) (μ i) true (eqb (getD t i 0) 1)) → Pushed node (askedAt q node μ) n (i + 1) t′
   unfolding askedAt
-  more i t t′ h p e = pushed-more node n tree few (topOf q) (λ p s b. nextOf q (node p) (μ p) s b) i h t t′ p e
-
-  pub asked-more : (i : ℕ) (t t′ : List ℕ) (a b : Bool) → i < n → Pushed node (askedAt q node μ) n i t →
-      a ≡ nextOf q (node i) (μ i) false (eqb (getD t i 0) 1) → b ≡ nextOf q (node i) (μ i) true (eqb (getD t i 0) 1) → t′ ≡ handed t (node i) a b → Pushed node (askedAt q node μ) n (i + 1) t′
-  asked-more i t t′ a b h p f g e = more i t t′ h p (e ∙ (ap (λ (x : Bool). handed t (node i) x b) (f ∙ ap (nextOf q (node i) (μ i) false) (asked-own i t h p)) ∙ ap (λ (x : Bool). handed t (node i) (nextOf q (node i) (μ i) false (askedAt q node μ i)) x) (g ∙ ap (nextOf q (node i) (μ i) true) (asked-own i t h p))))
+  asked-more i t t′ h p e = pushed-more node n tree few (topOf q) (λ p s b. nextOf q (node p) (μ p) s b) i h t t′ p (rw (asked-own i t h p) at e)
 
   pub asked-all : (t : List ℕ) → Pushed node (askedAt q node μ) n n t → Shows (askedAt q node μ) n t
   unfolding askedAt

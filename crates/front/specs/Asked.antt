@@ -12,8 +12,11 @@ use Rattle.steps.specs.InFront.{waitingStep, leads, inherited}
 use Rattle.moves.specs.Fits.{keeps}
 
 -- 0 one reaches the row, 1 it is held, any other it is live
+unfoldable pub nextBy : ℕ → Bool → Bool → Bool → Bool → Bool
+nextBy q leads waits keeps b = cond (eqb q 0) (b && leads) (cond (eqb q 1) (or b waits) (b && keeps))
+
 unfoldable pub nextOf : ℕ → Row → ℕ → Bool → Bool → Bool
-nextOf q N m s b = cond (eqb q 0) (b && leads N m s) (cond (eqb q 1) (or b (waitingStep N m)) (b && keeps N m s))
+nextOf q N m s b = nextBy q (leads N m s) (waitingStep N m) (keeps N m s) b
 
 unfoldable pub topOf : ℕ → Bool
 topOf q = not (eqb q 1)

@@ -1,20 +1,20 @@
 // Three questions about each row that its parent answers: whether one reaches it, whether it is held, whether it is live. One rising pass over the rows for each.
 ghost use mathlib.Core.Path.{_≡_};
-ghost use Prim.Native.Nat.{ℕ, _+_, _*_, _<_, _≤_};
+ghost use Prim.Native.Nat.{_+_, _*_, _≤_};
 ghost use lib.ListN.{length, getD};
-ghost use mathlib.Core.Bool.{_&&_, not};
+ghost use mathlib.Core.Bool.{true, false, _&&_, not};
 ghost use lib.Dec.{eqb};
 ghost use Rattle.laws.specs.Tests.{bit};
 ghost use Rattle.calculus.specs.Process.{pick};
 ghost use Rattle.calculus.specs.Places.{cleans};
 ghost use Rattle.steps.specs.Rows.{Tree};
-ghost use Rattle.steps.specs.Marks.{open-branches};
-ghost use Rattle.steps.specs.InFront.{waitingStep, opens, leads};
+ghost use Rattle.steps.specs.Marks.{stand, open-branches};
+ghost use Rattle.steps.specs.InFront.{waitsBy, passedBy, waitingStep, opens};
 ghost use Rattle.steps.specs.Push.{setIf, handed};
 ghost use Rattle.sheet.specs.Table.{rowAt};
 ghost use Rattle.moves.specs.Steps.{modeOf};
-ghost use Rattle.moves.specs.Fits.{keeps};
-ghost use Rattle.front.specs.Asked.{nextOf, topOf, askedAt, Shows};
+ghost use Rattle.moves.specs.Fits.{keepsBy, keeps};
+ghost use Rattle.front.specs.Asked.{nextBy, nextOf, topOf, askedAt, Shows};
 
 // What is asked of a row.
 pub const REACHED: u8 = 0;
@@ -38,21 +38,6 @@ fn opens(mark: u8, right: bool) -> bool
         2 => !right,
         3 => right,
         _ => true,
-    }
-}
-
-// One goes on from the row.
-fn leads(ts: &[u8], row: usize, mark: u8, right: bool) -> bool
-    requires { ⌜ row * 4 + 4 ≤ length (now ts) ⌝ }
-    ensures { λ r. ⌜ r ≡ leads (rowAt (now (ts .entry)) row) mark right ⌝ }
-{
-    match ts[row * 4] {
-        1 => mark == 1,
-        2 => mark == 1,
-        3 => mark == 1,
-        4 => opens(mark, right),
-        5 => true,
-        _ => false,
     }
 }
 
@@ -84,18 +69,32 @@ pub fn keeps(ts: &[u8], row: usize, mark: u8, right: bool) -> bool
     }
 }
 
-// What a row hands to a child, by what it was handed itself.
-fn next(asked: u8, ts: &[u8], row: usize, mark: u8, right: bool, own: bool) -> bool
-    requires { ⌜ row * 4 + 4 ≤ length (now ts) ⌝ }
-    ensures { λ r. ⌜ r ≡ nextOf asked (rowAt (now (ts .entry)) row) mark right own ⌝ }
+// What a row hands to a child, by what it was handed itself: whether one goes on from it, it is a waiting step, its remainder has what is below.
+fn next_by(asked: u8, leads: bool, waits: bool, keeps: bool, own: bool) -> bool
+    ensures { λ r. ⌜ r ≡ nextBy asked leads waits keeps own ⌝ }
 {
     if asked == REACHED {
-        return own & leads(ts, row, mark, right);
+        return own & leads;
     }
     if asked == HELD {
-        return own | waiting_step(ts, row, mark);
+        return own | waits;
     }
-    own & keeps(ts, row, mark, right)
+    own & keeps
+}
+
+// An ACT, OUT or JOIN.
+fn step_next(asked: u8, mark: u8, own: bool) -> bool
+    ensures { λ r. ⌜ r ≡ nextBy asked (passedBy (stand mark)) (waitsBy (stand mark)) (keepsBy (stand mark)) own ⌝ }
+{
+    next_by(asked, mark == 1, (mark != 1) & (mark != 4), mark != 4, own)
+}
+
+// A PICK.
+fn pick_next(asked: u8, mark: u8, right: bool, own: bool) -> bool
+    ensures { λ r. ⌜ r ≡ nextBy asked (opens (open-branches pick mark) right) false (opens (open-branches pick mark) right) own ⌝ }
+{
+    let open = opens(mark, right);
+    next_by(asked, open, false, open, own)
 }
 
 // The answer for row 0.
@@ -116,15 +115,33 @@ fn mark_child(table: &mut [u8; 256], child: u8, on: bool)
     }
 }
 
-// A row hands a test to its only or left child, and one to its right child.
-fn hand(table: &mut [u8; 256], ts: &[u8], row: usize, a: bool, b: bool)
-    requires { ⌜ row * 4 + 4 ≤ length (now ts) ⌝ }
-    ensures { λ _. ⌜ now (table .exit) ≡ handed (now (table .entry)) (rowAt (now (ts .entry)) row) a b ⌝ }
+fn mark_both(table: &mut [u8; 256], x: u8, y: u8, a: bool, b: bool)
+    ensures { λ _. ⌜ now (table .exit) ≡ setIf (b && not (eqb y 0)) y (setIf (a && not (eqb x 0)) x (now (table .entry))) ⌝ }
 {
-    let x = rows::first(ts, row);
-    let y = rows::second(ts, row);
     mark_child(table, x, a);
     mark_child(table, y, b);
+}
+
+// A row hands what was asked to its children.
+fn hand(table: &mut [u8; 256], asked: u8, ts: &[u8], row: usize, mark: u8, own: bool)
+    requires { ⌜ row * 4 + 4 ≤ length (now ts) ⌝ }
+    ensures { λ _. ⌜ now (table .exit) ≡ handed (now (table .entry)) (rowAt (now (ts .entry)) row) (nextOf asked (rowAt (now (ts .entry)) row) mark false own) (nextOf asked (rowAt (now (ts .entry)) row) mark true own) ⌝ }
+{
+    let at = row * 4;
+    match ts[at] {
+        1 => mark_child(table, ts[at + 2], step_next(asked, mark, own)),
+        2 => mark_child(table, ts[at + 3], step_next(asked, mark, own)),
+        3 => mark_child(table, ts[at + 2], step_next(asked, mark, own)),
+        4 => mark_both(
+            table,
+            ts[at + 1],
+            ts[at + 2],
+            pick_next(asked, mark, false, own),
+            pick_next(asked, mark, true, own),
+        ),
+        5 => mark_both(table, ts[at + 1], ts[at + 2], own, own),
+        _ => {}
+    }
 }
 
 // The answer for each row.
@@ -137,9 +154,7 @@ pub fn ask(asked: u8, ts: &[u8], n: usize, marks: &[u8; 256]) -> [u8; 256]
     let mut i = 0;
     while i < n {
         let own = table[i] == 1;
-        let a = next(asked, ts, i, marks[i], false, own);
-        let b = next(asked, ts, i, marks[i], true, own);
-        hand(&mut table, ts, i, a, b);
+        hand(&mut table, asked, ts, i, marks[i], own);
         i += 1;
     }
     table

@@ -14,4 +14,3 @@ pub mod Runs
 pub mod Kept
 pub mod Alike
 pub mod Demand
-pub mod SheetX

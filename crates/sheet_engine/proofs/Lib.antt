@@ -2,3 +2,4 @@ pub mod Calls
 pub mod Promises
 pub mod Unique
 pub mod Steps
+pub mod Values

@@ -3,7 +3,9 @@ use Prim.Native.Nat.{ℕ, _<_, _≤_}
 use mathlib.Core.Path.{_≡_, refl, sym, _∙_, ap}
 use mathlib.Core.Bool.{Bool, true, false, cond, not}
 use mathlib.Core.List.{List, [], _∷_, _++_}
+use mathlib.Core.Logic.{by-cases}
 use native.Mathlib.Omega.{arith}
+use native.Mathlib.Decide.{ℕ-discrete}
 use lib.Dec.{eqb, ltb}
 use lib.ListN.{length}
 use borrow.Author.Tests.{le-leb, lt-leb}
@@ -28,6 +30,7 @@ use Rattle.fitting.specs.Checks.{stateChecks}
 use Rattle.fitting.proofs.Fitted.{state-checks}
 use Rattle.engine.specs.declared.Stepped.{Stepped}
 use Rattle.engine.specs.ByValue.{takenAnswer}
+use Rattle.engine.proofs.Known.{answer-refused}
 use Rattle.sheet_engine.specs.Answers.{callChecks, listAnswer, listBuffer, kindAnswer, notTaken, stepAnswer}
 
 -- where none of two lists of checks fails, none of the first does
@@ -108,3 +111,13 @@ module _ (t : Table) (s : State) (r : Refusal) (told : r ≡ checked refuse (ref
 pub call-formed : (t : Table) (s : State) (r : Refusal) → r ≡ checked refuse (refuse 0 0) (callChecks t s) → r .number ≡ 0 → WellFormed t
 unfolding refusalOf numbered
 call-formed t s r told e = well-formed t (meets t (first-accepted (tableChecks t) (modeCheck (s .mode) ∷ fitChecks t s) refl (ap (λ (r : Refusal). r .number) (sym told) ∙ e)))
+
+-- where no step was taken, the state is the one that was handed in
+pub state-back : (t : Table) (s : State) (row : ℕ) → stepAnswer t s row .ok ≡ false → stepAnswer t s row .state ≡ s
+unfolding takenAnswer
+state-back t s row off =
+    by-cases (ℕ-discrete (checked refuse (refuse 0 0) (callChecks t s) .number) 0)
+    (λ e.
+    let k = step-given t s _ refl row _ e refl in
+    sym (ap (λ (r : Stepped). r .state) (answer-refused t s row _ refl (ap (λ (r : Stepped). r .ok) k ∙ off) ∙ k)))
+    (λ h. sym (ap (λ (r : Stepped). r .state) (step-refused t s _ refl row h)))

@@ -119,7 +119,7 @@ pub fn start(h: Head, ts: &[u8], cs: &[u8], mode: u8) -> Started
 }
 
 // The refusal of a table and a state.
-fn judge_state(h: Head, ts: &[u8], cs: &[u8], s: State) -> Refusal
+fn judge_state(s: State, h: Head, ts: &[u8], cs: &[u8]) -> Refusal
     ensures { λ r. ⌜ r ≡ checked refuse (refuse 0 0) (callChecks (tableOf h (now (ts .entry)) (now (cs .entry))) s) ⌝ }
 {
     let refusal = judge::judge(h, ts, cs);
@@ -132,10 +132,10 @@ fn judge_state(h: Head, ts: &[u8], cs: &[u8], s: State) -> Refusal
 }
 
 // The rows that have a step, rising, to a lent buffer, and their number; 12 with the size that is needed.
-pub fn list_steps(h: Head, ts: &[u8], cs: &[u8], s: State, out: &mut [u8]) -> SizeAnswer
+pub fn list_steps(s: State, h: Head, ts: &[u8], cs: &[u8], out: &mut [u8]) -> SizeAnswer
     ensures { λ r. ⌜ (r ≡ listAnswer (tableOf h (now (ts .entry)) (now (cs .entry))) s (length (now (out .entry)))) × (now (out .exit) ≡ listBuffer (tableOf h (now (ts .entry)) (now (cs .entry))) s (now (out .entry))) ⌝ }
 {
-    let refusal = judge_state(h, ts, cs, s);
+    let refusal = judge_state(s, h, ts, cs);
     let number = refusal.number;
     let place = refusal.place;
     if number != 0 {
@@ -150,10 +150,10 @@ pub fn list_steps(h: Head, ts: &[u8], cs: &[u8], s: State, out: &mut [u8]) -> Si
 }
 
 // The step of a row; 11 and the row where it has none.
-pub fn step_kind(h: Head, ts: &[u8], cs: &[u8], s: State, row: usize) -> StepKind
+pub fn step_kind(s: State, h: Head, ts: &[u8], cs: &[u8], row: usize) -> StepKind
     ensures { λ r. ⌜ r ≡ kindAnswer (tableOf h (now (ts .entry)) (now (cs .entry))) s row ⌝ }
 {
-    let refusal = judge_state(h, ts, cs, s);
+    let refusal = judge_state(s, h, ts, cs);
     let number = refusal.number;
     let place = refusal.place;
     if number != 0 {
@@ -163,10 +163,10 @@ pub fn step_kind(h: Head, ts: &[u8], cs: &[u8], s: State, row: usize) -> StepKin
 }
 
 // Taking the step of a row: the kind and the new state; a refusal gives the state back as it was.
-pub fn take_step(h: Head, ts: &[u8], cs: &[u8], s: State, row: usize) -> Stepped
+pub fn take_step(s: State, h: Head, ts: &[u8], cs: &[u8], row: usize) -> Stepped
     ensures { λ r. ⌜ r ≡ stepAnswer (tableOf h (now (ts .entry)) (now (cs .entry))) s row ⌝ }
 {
-    let refusal = judge_state(h, ts, cs, s);
+    let refusal = judge_state(s, h, ts, cs);
     let number = refusal.number;
     let place = refusal.place;
     if number != 0 {
@@ -177,4 +177,15 @@ pub fn take_step(h: Head, ts: &[u8], cs: &[u8], s: State, row: usize) -> Stepped
         };
     }
     engine::take(h, ts, cs, s, row)
+}
+
+// Taking a step on the caller's own state: the record is stored where a step was taken, else left as it was.
+pub fn step_in_place(state: &mut State, h: Head, ts: &[u8], cs: &[u8], row: usize) -> StepKind
+    ensures { λ r. ⌜ (r ≡ stepAnswer (tableOf h (now (ts .entry)) (now (cs .entry))) (now (state .entry)) row .answer) × (now (state .exit) ≡ stepAnswer (tableOf h (now (ts .entry)) (now (cs .entry))) (now (state .entry)) row .state) ⌝ }
+{
+    let next = take_step(*state, h, ts, cs, row);
+    if next.ok {
+        *state = next.state;
+    }
+    next.answer
 }

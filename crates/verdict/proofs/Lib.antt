@@ -1,3 +1,2 @@
 pub mod Joins
-pub mod Cases
 pub mod Exactly

@@ -1,0 +1,185 @@
+// The program's lines, each put on a page: a lent buffer, filled from a place on.
+ghost use mathlib.Core.Path.{_≡_};
+ghost use Prim.Native.Nat.{_≤_};
+ghost use lib.ListN.{length};
+ghost use Rattle.lines.specs.Page.{page, more, added};
+ghost use Rattle.lines.specs.Lines.{decimal, field, fields, namedLine, stepLine, verdictLine, refusedLine, letter, letters, linksLine, lastLine};
+ghost use Rattle.state.specs.declared.StepKind.the-variants.{Act, Set};
+ghost use Rattle.sheet_engine.specs.declared.VerdictAnswer.the-variants.{Fail};
+use sheet_engine::VerdictAnswer;
+use state::StepKind;
+
+// One more byte, where there is room.
+fn put(out: &mut [u8], at: usize, x: u8) -> usize
+    ensures { λ r. ⌜ page (now (out .exit)) r ≡ more (page (now (out .entry)) at) x ⌝ }
+{
+    if at < out.len() {
+        out[at] = x;
+        return at + 1;
+    }
+    at
+}
+
+fn text(out: &mut [u8], at: usize, bytes: &[u8]) -> usize
+    ensures { λ r. ⌜ page (now (out .exit)) r ≡ added (page (now (out .entry)) at) (now (bytes .entry)) ⌝ }
+{
+    let mut end = at;
+    let mut i = 0;
+    while i < bytes.len() {
+        end = put(out, end, bytes[i]);
+        i += 1;
+    }
+    end
+}
+
+// The digits of x.
+fn digits(out: &mut [u8], at: usize, x: usize) -> usize
+    ensures { λ r. ⌜ page (now (out .exit)) r ≡ added (page (now (out .entry)) at) (decimal x) ⌝ }
+{
+    if x < 10 {
+        return put(out, at, 48 + x as u8);
+    }
+    let end = digits(out, at, x / 10);
+    put(out, end, 48 + (x % 10) as u8)
+}
+
+// A space and a number.
+fn number(out: &mut [u8], at: usize, x: usize) -> usize
+    ensures { λ r. ⌜ page (now (out .exit)) r ≡ added (page (now (out .entry)) at) (field x) ⌝ }
+{
+    let end = put(out, at, 32);
+    digits(out, end, x)
+}
+
+fn small_number(out: &mut [u8], at: usize, x: u8) -> usize
+    ensures { λ r. ⌜ page (now (out .exit)) r ≡ added (page (now (out .entry)) at) (field x) ⌝ }
+{
+    number(out, at, x as usize)
+}
+
+// Numbers, each behind a space.
+fn numbers(out: &mut [u8], at: usize, xs: &[u8]) -> usize
+    ensures { λ r. ⌜ page (now (out .exit)) r ≡ added (page (now (out .entry)) at) (fields (now (xs .entry))) ⌝ }
+{
+    let mut end = at;
+    let mut i = 0;
+    while i < xs.len() {
+        end = small_number(out, end, xs[i]);
+        i += 1;
+    }
+    end
+}
+
+pub fn refused_line(out: &mut [u8], at: usize, no: u8, place: usize) -> usize
+    ensures { λ r. ⌜ page (now (out .exit)) r ≡ added (page (now (out .entry)) at) (refusedLine no place) ⌝ }
+{
+    let said = text(out, at, b"refused");
+    let numbered = small_number(out, said, no);
+    let placed = number(out, numbered, place);
+    put(out, placed, 10)
+}
+
+fn fail_line(out: &mut [u8], at: usize, row: usize, no: usize, link: usize) -> usize
+    ensures { λ r. ⌜ page (now (out .exit)) r ≡ added (page (now (out .entry)) at) (verdictLine (Fail row no link)) ⌝ }
+{
+    let said = text(out, at, b"verdict fail");
+    let rowed = number(out, said, row);
+    let numbered = number(out, rowed, no);
+    let linked = number(out, numbered, link);
+    put(out, linked, 10)
+}
+
+pub fn verdict_line(out: &mut [u8], at: usize, verdict: VerdictAnswer) -> usize
+    ensures { λ r. ⌜ page (now (out .exit)) r ≡ added (page (now (out .entry)) at) (verdictLine verdict) ⌝ }
+{
+    match verdict {
+        VerdictAnswer::Pass => text(out, at, b"verdict pass\n"),
+        VerdictAnswer::Fail { row, number, link } => fail_line(out, at, row, number, link),
+        VerdictAnswer::Refused(number, place) => refused_line(out, at, number, place),
+    }
+}
+
+// A step, its row, what it is called and its values.
+fn named_line(out: &mut [u8], at: usize, row: u8, word: &[u8], values: &[u8]) -> usize
+    ensures { λ r. ⌜ page (now (out .exit)) r ≡ added (page (now (out .entry)) at) (namedLine row (now (word .entry)) (now (values .entry))) ⌝ }
+{
+    let said = text(out, at, b"step");
+    let rowed = small_number(out, said, row);
+    let named = text(out, rowed, word);
+    let valued = numbers(out, named, values);
+    put(out, valued, 10)
+}
+
+fn act_line(out: &mut [u8], at: usize, row: u8, a: u8) -> usize
+    ensures { λ r. ⌜ page (now (out .exit)) r ≡ added (page (now (out .entry)) at) (stepLine row (Act a)) ⌝ }
+{
+    let values = [a];
+    named_line(out, at, row, b" act", &values)
+}
+
+fn set_line(out: &mut [u8], at: usize, row: u8, l: u8, v: u8) -> usize
+    ensures { λ r. ⌜ page (now (out .exit)) r ≡ added (page (now (out .entry)) at) (stepLine row (Set l v)) ⌝ }
+{
+    let values = [l, v];
+    named_line(out, at, row, b" set", &values)
+}
+
+// The line of a step, or of its refusal.
+pub fn step_line(out: &mut [u8], at: usize, row: u8, kind: StepKind) -> usize
+    ensures { λ r. ⌜ page (now (out .exit)) r ≡ added (page (now (out .entry)) at) (stepLine row kind) ⌝ }
+{
+    match kind {
+        StepKind::Act(a) => act_line(out, at, row, a),
+        StepKind::Set(l, v) => set_line(out, at, row, l, v),
+        StepKind::Open => named_line(out, at, row, b" open", b""),
+        StepKind::Clean => named_line(out, at, row, b" clean", b""),
+        StepKind::Refused(number, place) => refused_line(out, at, number, place),
+    }
+}
+
+fn letter_of(x: u8) -> u8
+    ensures { λ r. ⌜ r ≡ letter x ⌝ }
+{
+    if x == 0 {
+        return 117;
+    }
+    if x == 1 {
+        return 102;
+    }
+    116
+}
+
+fn put_letters(out: &mut [u8], at: usize, xs: &[u8]) -> usize
+    ensures { λ r. ⌜ page (now (out .exit)) r ≡ added (page (now (out .entry)) at) (letters (now (xs .entry))) ⌝ }
+{
+    let mut end = at;
+    let mut i = 0;
+    while i < xs.len() {
+        end = put(out, end, letter_of(xs[i]));
+        i += 1;
+    }
+    end
+}
+
+pub fn links_line(out: &mut [u8], at: usize, m: usize, values: &[u8]) -> usize
+    requires { ⌜ m ≤ length (now values) ⌝ }
+    ensures { λ r. ⌜ page (now (out .exit)) r ≡ added (page (now (out .entry)) at) (linksLine m (now (values .entry))) ⌝ }
+{
+    if m == 0 {
+        return text(out, at, b"links\n");
+    }
+    let said = text(out, at, b"links ");
+    let lettered = put_letters(out, said, &values[..m]);
+    put(out, lettered, 10)
+}
+
+pub fn last_line(out: &mut [u8], at: usize, rows: &[u8]) -> usize
+    ensures { λ r. ⌜ page (now (out .exit)) r ≡ added (page (now (out .entry)) at) (lastLine (now (rows .entry))) ⌝ }
+{
+    if rows.len() == 0 {
+        return text(out, at, b"over\n");
+    }
+    let said = text(out, at, b"enabled");
+    let listed = numbers(out, said, rows);
+    put(out, listed, 10)
+}

@@ -1,0 +1,124 @@
+-- What two states share, as a caller sees it: the listed steps, and the bytes of the links. Assumes nothing.
+use Prim.Native.Nat.{ℕ, zero, suc, _≤_, _<_}
+use mathlib.Core.Path.{_≡_, refl, sym, _∙_, ap, ap₂, subst, fun-ext}
+use mathlib.Core.Bool.{Bool, true, false, cond}
+use mathlib.Core.List.{List, _∷_, map}
+use mathlib.Core.Logic.{_⊎_, inl, inr, ⊎-elim, by-cases, _↔_}
+use native.Mathlib.Omega.{arith}
+use native.Mathlib.Decide.{decLt}
+use lib.Dec.{eqb, ltb, leb}
+use lib.ListN.{List·getD-eq-default}
+use borrow.Author.Tests.{lt-ltb, le-ltb, leb-true, eqb-true}
+use Rattle.laws.specs.Listed.{listed}
+use Rattle.laws.proofs.Tests.{not-both}
+use Rattle.calculus.specs.Order.{_⊑_}
+use Rattle.calculus.specs.Places.{Grows}
+use Rattle.calculus.proofs.Order.{below-cases}
+use Rattle.conditions.specs.Numbers.{digit, undigit}
+use Rattle.sheet.specs.Table.{Table}
+use Rattle.evaluate.specs.Values.{linksIn}
+use Rattle.state.specs.declared.State.{State}
+use Rattle.state.specs.declared.StepKind.{StepKind}
+use Rattle.state.specs.declared.StepKind.the-variants.{Act, Set, Open, Clean, Refused}
+use Rattle.moves.specs.Steps.{linksOf, Sized, kindAt, hasStep, listedOf}
+use Rattle.moves.specs.Fits.{linkOk}
+use Rattle.moves.specs.Runs.{Taken, unless-clean, struck, Alike}
+use Rattle.moves.proofs.Kept.{links-never-alter}
+use Rattle.promises.specs.Calls.{Accepted, link, listedSteps, Run, over, more, last}
+use Rattle.promises.proofs.Calls.{formed, one-source, kind-is, rows-are, taken-accepted, to-steps, run-keeps}
+
+-- a step is a cleaning step or stays
+clean-or : (k : StepKind) → (k ≡ Clean) ⊎ ((k ≡ Clean → ⊥) × ((x : Taken) (l : List Taken) → unless-clean x k l ≡ x ∷ l))
+clean-or (Act a) = inr ((λ e. let z : _≡_ {A = ℕ} 0 1 = cc in omega arith), λ x l. refl)
+clean-or (Set a v) = inr ((λ e. let z : _≡_ {A = ℕ} 0 1 = cc in omega arith), λ x l. refl)
+clean-or Open = inr ((λ e. let z : _≡_ {A = ℕ} 0 1 = cc in omega arith), λ x l. refl)
+clean-or Clean = inl refl
+clean-or (Refused n p) = inr ((λ e. let z : _≡_ {A = ℕ} 0 1 = cc in omega arith), λ x l. refl)
+
+-- rows with their kinds
+abbrev pub with-kinds : (ℕ → StepKind) → List ℕ → List Taken
+with-kinds k = map (λ r. record { row = r; kind = k r })
+
+-- two lists of steps that agree, cleaning steps apart
+module _ (f g : ℕ → Bool) (k l : ℕ → StepKind) (same-steps : (r : ℕ) → ((f r ≡ true) ↔ ((g r ≡ true) × (l r ≡ Clean → ⊥)))) (same-kinds : (r : ℕ) → f r ≡ true → k r ≡ l r) where
+  steps-struck : (i c : ℕ) → with-kinds k (listed f i c) ≡ struck (with-kinds l (listed g i c))
+  unfolding listed struck
+  steps-struck i zero = refl
+  steps-struck i (suc c) = at (f i) refl (g i) refl (steps-struck (suc i) c)
+    where
+      at : (a : Bool) → f i ≡ a → (b : Bool) → g i ≡ b → with-kinds k (listed f (suc i) c) ≡ struck (with-kinds l (listed g (suc i) c)) → with-kinds k (cond a (i ∷ listed f (suc i) c) (listed f (suc i) c)) ≡ struck (with-kinds l (cond b (i ∷ listed g (suc i) c) (listed g (suc i) c)))
+      at true e true d ih =
+          ⊎-elim
+          (λ z. absurd (same-steps i .0 e .1 z))
+          (λ (never, stays). ap₂ (λ (κ : StepKind) (xs : List Taken). record { row = i; kind = κ } ∷ xs) (same-kinds i e) ih ∙ sym (stays (record { row = i; kind = l i }) _))
+          (clean-or (l i))
+      at true e false d ih = absurd (not-both (same-steps i .0 e .0) d)
+      at false e true d ih =
+          ⊎-elim
+          (λ z. ih ∙ rw z refl)
+          (λ (never, stays). absurd (not-both (same-steps i .1 (d, never)) e))
+          (clean-or (l i))
+      at false e false d ih = ih
+
+-- THE LISTED STEPS of states that `moves` calls alike
+pub same-listed : (t : Table) (s z : State) → Accepted t s → Accepted t z → Alike t s z → listedSteps t s ≡ struck (listedSteps t z)
+unfolding listedOf
+same-listed t s z a b h =
+    shown s a ∙ (steps-struck (hasStep t s) (hasStep t z) (kindAt t s) (kindAt t z) (h .same-steps) (h .same-kinds) 0 (t .n) ∙ ap struck (sym (shown z b)))
+  where
+    shown : (s : State) → Accepted t s → listedSteps t s ≡ with-kinds (kindAt t s) (listedOf t s)
+    shown s a = ap₂ with-kinds (fun-ext (kind-is t s a)) (rows-are t s a)
+
+-- A byte of a state's links is the number of its value: 0 to 2 below 64, and 0 past it.
+undigit-small : (x : ℕ) → x ≤ 2 → digit (undigit x) ≡ x
+unfolding digit undigit
+undigit-small zero h = refl
+undigit-small (suc zero) h = refl
+undigit-small (suc (suc x)) h = omega arith
+
+module _ (t : Table) (s : State) (a : Accepted t s) where
+  link-small : (l : ℕ) → l < 64 → link s l ≤ 2
+  unfolding linkOk
+  link-small l h = at (ltb l (t .m)) (a .fits .links-fit l (omega arith) h)
+    where
+      at : (b : Bool) → cond b (leb (link s l) 2) (eqb (link s l) 0) ≡ true → link s l ≤ 2
+      at true e = leb-true (link s l) 2 e
+      at false e = let z : link s l ≡ 0 = eqb-true (link s l) 0 e in omega arith
+
+  pub link-is : (l : ℕ) → link s l ≡ digit (linksOf s l)
+  unfolding linksIn digit
+  link-is l =
+      by-cases (decLt l 64)
+      (λ h. rw (lt-ltb l 64 h) (sym (undigit-small (link s l) (link-small l h))))
+      (λ h. rw (le-ltb l 64 (omega arith)) (List·getD-eq-default (s .links) 0 (omega (arith, a .sized .all-links))))
+
+-- THE LINKS of states whose values are in order, or grow
+module _ (t : Table) (s z : State) (a : Accepted t s) (b : Accepted t z) where
+  pub links-below : linksOf s ⊑ linksOf z → (l : ℕ) → (link s l ≡ link z l) ⊎ ((link s l ≡ 0) × (link z l ≡ 1))
+  unfolding digit
+  links-below h l =
+      let p = link-is t s a l in
+      let q = link-is t z b l in
+      ⊎-elim
+      (λ e. inl (p ∙ (ap digit e ∙ sym q)))
+      (λ (e, d). inr (p ∙ ap digit e, q ∙ ap digit d))
+      (below-cases (h l))
+
+  pub links-grow : Grows (linksOf s) (linksOf z) → (l : ℕ) → (link s l ≡ 0) ⊎ (link z l ≡ link s l)
+  unfolding digit
+  links-grow h l =
+      let p = link-is t s a l in
+      let q = link-is t z b l in
+      ⊎-elim
+      (λ e. inl (p ∙ ap digit e))
+      (λ e. inr (q ∙ (ap digit e ∙ sym p)))
+      (h l)
+
+-- a link once set stays, along any run
+pub link-stays : {t : Table} {s : State} → Sized s → (G : Run t s) (l : ℕ) → (link s l ≡ 0) ⊎ (link (last G) l ≡ link s l)
+unfolding last
+link-stays size over l = inr refl
+link-stays {t} {s} size (more r m ok G) l =
+    let a = taken-accepted t s size r ok in
+    let (R, _, q) = to-steps size (more r m ok G) in
+    links-grow t s (last G) a (run-keeps a (more r m ok G)) (subst (λ (z : State). Grows (linksOf s) (linksOf z)) q (links-never-alter t (formed a) (one-source a) size (a .fits) R)) l

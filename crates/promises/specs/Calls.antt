@@ -1,0 +1,60 @@
+-- What a caller sees through the calls, by the definitions that their contracts cite: the steps that are listed in a state, and runs of steps that are taken.
+use Prim.Native.Nat.{ℕ, _≤_}
+use mathlib.Core.Path.{_≡_}
+use mathlib.Core.Bool.{true}
+use mathlib.Core.List.{List, [], _∷_, map, List·Memᴰ}
+use lib.ListN.{getD, length, take, replicate}
+use Rattle.sheet.specs.Table.{Table}
+use Rattle.sheet.specs.Rules.{refusalOf}
+use Rattle.codec.specs.declared.SizeAnswer.{SizeAnswer}
+use Rattle.codec.specs.declared.SizeAnswer.the-variants.{Size, Refused}
+use Rattle.state.specs.declared.State.{State}
+use Rattle.moves.specs.Steps.{Sized}
+use Rattle.moves.specs.Fits.{Fits}
+use Rattle.moves.specs.Runs.{Taken}
+use Rattle.sheet_engine.specs.Answers.{startAnswer, listAnswer, listBuffer, kindAnswer, stepAnswer}
+
+-- A table and a state that a call with a state does not refuse: neither 1 to 8, nor 9, nor 10. Of the right size is every state of the program.
+pub record Accepted (t : Table) (s : State) : Type 0 where
+  pub table : refusalOf t .number ≡ 0
+  pub mode : s .mode ≤ 1
+  pub fits : Fits t s
+  pub sized : Sized s
+
+-- "started fresh": the state that `start` hands out
+abbrev pub freshIn : Table → ℕ → State
+freshIn t mode = startAnswer t mode .state
+
+-- a link as the state's byte: 0 unset, 1 false, 2 true
+abbrev pub link : State → ℕ → ℕ
+link s l = getD (s .links) l 0
+
+-- What `list_steps` lists: of the lent buffer as many bytes as it answers, none where it refuses.
+abbrev pub countOf : SizeAnswer → ℕ
+countOf (Size count) = count
+countOf (Refused number place) = 0
+
+unfoldable pub listedIn : Table → State → List ℕ → List ℕ
+listedIn t s lent = take (countOf (listAnswer t s (length lent))) (listBuffer t s lent)
+
+-- ... with a buffer of 256 bytes, which no list exceeds
+abbrev pub listedRows : Table → State → List ℕ
+listedRows t s = listedIn t s (replicate 256 0)
+
+-- the listed steps, each with its row and the kind that `step_kind` answers
+abbrev pub listedSteps : Table → State → List Taken
+listedSteps t s = map (λ row. record { row = row; kind = kindAnswer t s row }) (listedRows t s)
+
+-- A run of the calls: rows, each listed by `list_steps` and taken by `take_step` in the state before, which hands out the state after.
+pub data Run (t : Table) : State → Type 0 where
+  over : {s : State} → Run t s
+  more : {s : State} (row : ℕ) → List·Memᴰ row (listedRows t s) → stepAnswer t s row .ok ≡ true → Run t (stepAnswer t s row .state) → Run t s
+
+-- its steps, with the kinds that `take_step` answered, and the state after it
+unfoldable pub taken : {t : Table} {s : State} → Run t s → List Taken
+taken over = []
+taken {t} {s} (more row listed ok G) = record { row = row; kind = stepAnswer t s row .answer } ∷ taken G
+
+unfoldable pub last : {t : Table} {s : State} → Run t s → State
+last {s = s} over = s
+last (more row listed ok G) = last G
