@@ -17,7 +17,7 @@ use Rattle.sheet.specs.Rules.{refuse, refusalOf}
 use Rattle.sheet.specs.Accepted.{WellFormed}
 use Rattle.sheet.specs.Sheet.{numberAt, front, sheetOf, sizeOf, headOf, termsOf, conditionsOf, sheetSize, entryOk, inFours, contentsOk, contents, tableIn}
 use Rattle.sheet.proofs.Accepted.{Meets, meets, well-formed}
-use Rattle.sheet.proofs.Beyond.{cut, cut-meets, meets-accepted}
+use Rattle.sheet.proofs.Beyond.{cut-refusal, meets-accepted}
 use Rattle.codec.specs.declared.SheetAnswer.the-variants as sheet
 use Rattle.codec.specs.declared.SizeAnswer.the-variants as size
 use Rattle.codec.specs.Answers.{readOf, partOf, writeOf, writtenOf}
@@ -205,7 +205,7 @@ module _ (h : Head) (ts cs : List ℕ) (accepted : refusalOf (tableOf h ts cs) .
 
   table-back : refusalOf (tableIn s) ≡ refuse 0 0
   unfolding refusalOf
-  table-back = rw (head-back, terms-back, conditions-back) (meets-accepted refuse (refuse 0 0) (cut t) (cut-meets t g))
+  table-back = rw (head-back, terms-back, conditions-back) (sym (cut-refusal t) ∙ meets-accepted refuse (refuse 0 0) t g)
 
   pub read-of-sheet : readOf s ≡ sheet.Sheet h
   read-of-sheet = is-accepted s h (record { size = sized-right; sound = sound; table = table-back; head = sym head-back })

@@ -1,7 +1,7 @@
 -- The laws of the first failing check, and of a loop that looks for a check's place. Assumes nothing.
 use Prim.Native.Nat.{ℕ, _+_, _-_, _<_, _≤_}
 use mathlib.Core.Path.{_≡_, refl, sym, _∙_, ap}
-use mathlib.Core.Bool.{true, false, cond}
+use mathlib.Core.Bool.{Bool, true, false, cond}
 use mathlib.Core.List.{List, [], _∷_, _++_}
 use mathlib.Core.Logic.{_⊎_, inl, inr, ⊎-elim, by-cases}
 use native.Mathlib.Omega.{arith}
@@ -11,7 +11,7 @@ use borrow.Author.Tests.{lt-ltb, le-ltb}
 use Rattle.laws.specs.Lowest.{lowest}
 use Rattle.laws.specs.Checks.{Check, placeOf, Holds, checked, AllHold}
 use Rattle.laws.proofs.Tests.{not-both, cond-map}
-use Rattle.laws.proofs.Lowest.{lowest-from, lowest-at, lowest-below, lowest-none, lowest-is, lowest-more, lowest-stop, lowest-end}
+use Rattle.laws.proofs.Lowest.{lowest-from, lowest-at, lowest-below, lowest-none, lowest-same, lowest-is, lowest-more, lowest-stop, lowest-end}
 
 module _ {A : Type 0} (refuse : ℕ → ℕ → A) (good : A) (c : Check) (cs : List Check) (p : ℕ) (at : p ≡ placeOf c) where
   pub checked-fails : p < c .upto → refuse (c .number) p ≡ checked refuse good (c ∷ cs)
@@ -32,6 +32,11 @@ checked-append refuse good (c ∷ cs) ds = ap (cond (ltb (placeOf c) (c .upto)) 
 pub place-holds : (c : Check) (p : ℕ) → p ≡ placeOf c → c .upto ≤ p → Holds c
 unfolding placeOf
 place-holds c p at h q low high = lowest-below (c .rule) (c .from) (c .upto - c .from) q low (omega arith)
+
+-- two rules that agree at each place have one place
+place-same : (c : Check) (rule : ℕ → Bool) → ((p : ℕ) → c .from ≤ p → p < c .upto → c .rule p ≡ rule p) → placeOf c ≡ placeOf (record { number = c .number; from = c .from; upto = c .upto; rule = rule })
+unfolding placeOf
+place-same c rule same = lowest-same (c .rule) rule (c .from) (c .upto - c .from) (λ p a b. same p a (omega arith))
 
 -- the place below which the rule is met and at which it is not
 pub place-is : (c : Check) (i : ℕ) → c .from ≤ i → ((p : ℕ) → c .from ≤ p → p < i → c .rule p ≡ true) → i < c .upto → c .rule i ≡ false → i ≡ placeOf c
@@ -102,6 +107,20 @@ holds-end c h =
     by-cases (decLt (lowest (c .rule) (c .from) (c .upto - c .from)) (c .upto))
     (λ g. let l = lowest-from (c .rule) (c .from) (c .upto - c .from) in absurd (not-both (h _ l g) (lowest-at (c .rule) (c .from) (c .upto - c .from) (omega arith))))
     (λ g. omega arith)
+
+-- two checks that agree where they look, and the same answer behind them where they hold
+pub checked-same : {A : Type 0} (refuse : ℕ → ℕ → A) (good : A) (c : Check) (rule : ℕ → Bool) (cs ds : List Check) → ((p : ℕ) → c .from ≤ p → p < c .upto → c .rule p ≡ rule p) → (Holds c → checked refuse good cs ≡ checked refuse good ds) → checked refuse good (c ∷ cs) ≡ checked refuse good (record { number = c .number; from = c .from; upto = c .upto; rule = rule } ∷ ds)
+checked-same refuse good c rule cs ds same rest =
+    by-cases (decLt (placeOf c) (c .upto))
+    (λ h. sym (checked-fails refuse good c cs (placeOf c) refl h) ∙ checked-fails refuse good d ds (placeOf c) place h)
+    (λ h. let g : c .upto ≤ placeOf c = omega arith in
+    sym (checked-holds refuse good c cs (placeOf c) refl g) ∙ (rest (place-holds c (placeOf c) refl g) ∙ checked-holds refuse good d ds (placeOf c) place g))
+  where
+    d : Check
+    d = record { number = c .number; from = c .from; upto = c .upto; rule = rule }
+
+    place : placeOf c ≡ placeOf d
+    place = place-same c rule same
 
 -- what is not refused meets every check ...
 pub unrefused : {A : Type 0} (refuse : ℕ → ℕ → A) (good : A) (cs : List Check) → ((n p : ℕ) → checked refuse good cs ≡ refuse n p → ⊥) → AllHold cs

@@ -1,26 +1,28 @@
--- "Places beyond these are no part of it": an accepted table stays accepted where its slices end at row n and row k. Assumes nothing.
+-- "Places beyond these are no part of it": a table is accepted or refused as it is without them, with the same number and place. Assumes nothing.
 use Prim.Native.Nat.{ℕ, _+_, _*_, _<_}
-use mathlib.Core.Path.{_≡_, refl, _∙_, ap}
-use mathlib.Core.Bool.{true, false, cond}
-use mathlib.Core.List.{List}
+use mathlib.Core.Path.{_≡_, refl, sym, _∙_, ap, ap₂}
+use mathlib.Core.Bool.{Bool, false, cond, _&&_}
+use mathlib.Core.List.{List, []}
+use mathlib.Core.Logic.{by-cases}
 use native.Mathlib.Omega.{arith}
+use native.Mathlib.Decide.{decLt}
 use lib.Dec.{eqb, leb}
 use lib.ListN.{length, take}
-use lib.Seq.{getD-take, length-take-le}
+use lib.Seq.{getD-take, length-take-le, take-all}
 use borrow.Author.Tests.{le-leb}
 use Rattle.laws.specs.Sums.{count}
-use Rattle.laws.specs.Checks.{checked, AllHold}
+use Rattle.laws.specs.Checks.{Check, Holds, checked, AllHold}
 use Rattle.laws.proofs.Sums.{sum-same}
 use Rattle.laws.proofs.Up.{up-same}
-use Rattle.laws.proofs.Checks.{all-hold}
+use Rattle.laws.proofs.Checks.{checked-same, all-hold}
 use Rattle.calculus.specs.Process.{act, out, join}
 use Rattle.conditions.specs.Conditions.{Condition, constant, ConditionRow, conditionBy, condition}
 use Rattle.conditions.specs.Numbers.{linksOf}
 use Rattle.steps.specs.Rows.{Row, NIL, PREFIX, BRANCH, isSource}
-use Rattle.sheet.specs.Table.{Table, rowAt, conditionRowAt}
-use Rattle.sheet.specs.Rules.{sized, conditionOk, termOk, namings, timesNamed, sources, narrowPrefix, narrowRow, tableChecks}
+use Rattle.sheet.specs.Table.{Table, cut, rowAt, conditionRowAt}
+use Rattle.sheet.specs.Rules.{sized, conditionOk, termOk, namings, timesNamed, sources, narrowPrefix, narrowRow, sizes, settings, conditions, terms, tree, oneSource, narrow, from3, from4, from5, from6, from7, from8, tableChecks, refuse, refusalOf}
 use Rattle.sheet.proofs.Rows.{PrefixOk, RowOk, term-row}
-use Rattle.sheet.proofs.Accepted.{Meets, well-formed}
+use Rattle.sheet.proofs.Accepted.{Meets}
 
 module _ (n : ℕ) (ts : List ℕ) where
   row-same : (i : ℕ) → i < n → rowAt (take (4 * n) ts) i ≡ rowAt ts i
@@ -60,31 +62,60 @@ module _ (k : ℕ) (cs : List ℕ) where
   narrow-same m n i (PREFIX (join q) c) o = ap (λ (C : Condition). leb (length (linksOf m C)) 8) (condition-same q (o .0))
   narrow-same m n i (BRANCH κ p q) o = refl
 
--- the table whose slices end at row n and row k
-abbrev pub cut : Table → Table
-cut t = record { evaluation = t .evaluation; m = t .m; n = t .n; k = t .k; terms = take (4 * t .n) (t .terms); conditions = take (4 * t .k) (t .conditions) }
+-- as many rows are lent
+lent-same : (n : ℕ) (l : List ℕ) → leb (n * 4) (length l) ≡ leb (n * 4) (length (take (4 * n) l))
+lent-same n l =
+    by-cases (decLt (length l) (4 * n))
+    (λ h. ap (λ (x : List ℕ). leb (n * 4) (length x)) (sym (take-all (4 * n) l (omega arith))))
+    (λ h. let e : length (take (4 * n) l) ≡ 4 * n = length-take-le (4 * n) l (omega arith) in
+    rw (e, le-leb (n * 4) (length l) (omega arith), le-leb (n * 4) (4 * n) (omega arith)))
 
-module _ (t : Table) (g : Meets t) where
-  cut-sized : sized (t .n) (t .k) (length (cut t .terms)) (length (cut t .conditions)) ≡ true
-  unfolding sized
-  cut-sized =
-      let w = well-formed t g in
-      let a : length (take (4 * t .n) (t .terms)) ≡ 4 * t .n = length-take-le (4 * t .n) (t .terms) (omega (arith, w .terms-lent)) in
-      let b : length (take (4 * t .k) (t .conditions)) ≡ 4 * t .k = length-take-le (4 * t .k) (t .conditions) (omega (arith, w .conditions-lent)) in
-      rw (a, b, le-leb 1 (t .n) (w .tree .some-row), le-leb (t .n) 256 (w .few-terms), le-leb (t .k) 256 (w .few-conditions), le-leb (t .n * 4) (4 * t .n) (omega arith), le-leb (t .k * 4) (4 * t .k) (omega arith)) refl
+sized-same : (n k : ℕ) (ts cs : List ℕ) → sized n k (length ts) (length cs) ≡ sized n k (length (take (4 * n) ts)) (length (take (4 * k) cs))
+unfolding sized
+sized-same n k ts cs = ap₂ (λ (x y : Bool). leb 1 n && (leb n 256 && (leb k 256 && (x && y)))) (lent-same n ts) (lent-same k cs)
 
-  pub cut-meets : Meets (cut t)
-  cut-meets = record {
-    rule-1 = cut-sized;
-    rule-3 = g .rule-3;
-    rule-4 = λ p a h. rule-same (t .k) (t .conditions) (t .m) p h ∙ g .rule-4 p a h;
-    rule-5 = λ p a h. term-same (t .n) (t .terms) (t .m) (t .k) p h ∙ g .rule-5 p a h;
-    rule-6 = λ p a h. ap (λ (x : ℕ). eqb x 1) (named-same (t .n) (t .terms) p) ∙ g .rule-6 p a h;
-    rule-7 = λ p a h. ap (λ (x : ℕ). leb x 1) (sources-same (t .n) (t .terms) p) ∙ g .rule-7 p a h;
-    rule-8 = λ p a h.
-        ap (narrowRow (t .m) (conditionRowAt (take (4 * t .k) (t .conditions)))) (row-same (t .n) (t .terms) p h) ∙
-        (narrow-same (t .k) (t .conditions) (t .m) (t .n) p (rowAt (t .terms) p) (term-row (t .terms) (t .m) (t .n) (t .k) p (g .rule-5 p (omega arith) h)) ∙ g .rule-8 p a h);
-  }
+-- the checks from the last on, in the words of any call's answer
+module _ {A : Type 0} (answer : ℕ → ℕ → A) (good : A) (t : Table) where
+  abbrev Same : (Table → List Check) → Type 0
+  Same checks = checked answer good (checks t) ≡ checked answer good (checks (cut t))
+
+  abbrev Sound : Type 0
+  Sound = Holds (terms (t .m) (t .n) (t .k) (t .terms))
+
+  -- 8 reads a condition that 5 has found below k
+  same-8 : Sound → Same from8
+  same-8 five = checked-same answer good (narrow (t .m) (t .n) (t .terms) (t .conditions)) _ [] [] (λ p a h. rule p h) (λ eight. refl)
+    where
+      rule : (p : ℕ) → p < t .n → narrowRow (t .m) (conditionRowAt (t .conditions)) (rowAt (t .terms) p) ≡ narrowRow (t .m) (conditionRowAt (cut t .conditions)) (rowAt (cut t .terms) p)
+      rule p h = sym (
+          ap (narrowRow (t .m) (conditionRowAt (cut t .conditions))) (row-same (t .n) (t .terms) p h) ∙
+          narrow-same (t .k) (t .conditions) (t .m) (t .n) p (rowAt (t .terms) p) (term-row (t .terms) (t .m) (t .n) (t .k) p (five p (omega arith) h)))
+
+  same-7 : Sound → Same from7
+  same-7 five = checked-same answer good (oneSource (t .m) (t .n) (t .terms)) _ (from8 t) (from8 (cut t)) (λ p a h. ap (λ (x : ℕ). leb x 1) (sym (sources-same (t .n) (t .terms) p))) (λ seven. same-8 five)
+
+  same-6 : Sound → Same from6
+  same-6 five = checked-same answer good (tree (t .n) (t .terms)) _ (from7 t) (from7 (cut t)) (λ p a h. ap (λ (x : ℕ). eqb x 1) (sym (named-same (t .n) (t .terms) p))) (λ six. same-7 five)
+
+  same-5 : Same from5
+  same-5 = checked-same answer good (terms (t .m) (t .n) (t .k) (t .terms)) _ (from6 t) (from6 (cut t)) (λ p a h. sym (term-same (t .n) (t .terms) (t .m) (t .k) p h)) same-6
+
+  same-4 : Same from4
+  same-4 = checked-same answer good (conditions (t .m) (t .k) (t .conditions)) _ (from5 t) (from5 (cut t)) (λ p a h. sym (rule-same (t .k) (t .conditions) (t .m) p h)) (λ four. same-5)
+
+  same-3 : Same from3
+  same-3 = checked-same answer good (settings (t .evaluation) (t .m)) _ (from4 t) (from4 (cut t)) (λ p a h. refl) (λ three. same-4)
+
+  pub cut-checked : Same tableChecks
+  cut-checked = checked-same answer good (sizes (t .n) (t .k) (length (t .terms)) (length (t .conditions))) _ (from3 t) (from3 (cut t)) (λ p a h. sized-same (t .n) (t .k) (t .terms) (t .conditions)) (λ one. same-3)
+
+pub cut-refusal : (t : Table) → refusalOf t ≡ refusalOf (cut t)
+unfolding refusalOf
+cut-refusal = cut-checked refuse (refuse 0 0)
+
+-- two tables that differ only beyond row n and row k
+pub same-refusal : (t t′ : Table) → cut t ≡ cut t′ → refusalOf t ≡ refusalOf t′
+same-refusal t t′ e = cut-refusal t ∙ ap refusalOf e ∙ sym (cut-refusal t′)
 
 -- a table that meets every rule is accepted, in the words of any call's answer
 pub meets-accepted : {A : Type 0} (answer : ℕ → ℕ → A) (good : A) (t : Table) → Meets t → checked answer good (tableChecks t) ≡ good
