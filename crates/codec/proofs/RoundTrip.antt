@@ -226,8 +226,11 @@ module _ (h : Head) (ts cs : List ℕ) (accepted : refusalOf (tableOf h ts cs) .
     unfolding writtenOf written
     bytes-written = sym (write-whole (λ number place. out) (written s out) h ts cs (length out) (refusalOf t) refl accepted fits) ∙ rw (long, le-leb (sizeOf h) (length out) fits) refl
 
+    pub written-front : take (sizeOf h) (writtenOf h ts cs out) ≡ s
+    written-front = ap (take (sizeOf h)) bytes-written ∙ take-at s (drop (sizeOf h) out) (sizeOf h) long
+
     pub written-then-read : readOf (take (sizeOf h) (writtenOf h ts cs out)) ≡ sheet.Sheet h
-    written-then-read = ap (λ (o : List ℕ). readOf (take (sizeOf h) o)) bytes-written ∙ (ap readOf (take-at s (drop (sizeOf h) out) (sizeOf h) long) ∙ read-of-sheet)
+    written-then-read = ap readOf written-front ∙ read-of-sheet
 
 pub read-then-written : (s : List ℕ) (h : Head) → Bytes s → readOf s ≡ sheet.Sheet h → (out : List ℕ) → length s ≤ length out → (writeOf h (termsOf s) (conditionsOf s) (length out) ≡ size.Size (length s)) × (writtenOf h (termsOf s) (conditionsOf s) out ≡ s ++ drop (length s) out)
 read-then-written s h b e out fits =

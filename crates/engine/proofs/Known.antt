@@ -9,7 +9,7 @@ use native.Mathlib.Omega.{arith}
 use native.Mathlib.Decide.{decLt}
 use lib.Dec.{eqb, ltb}
 use lib.ListN.{getD, length, drop}
-use borrow.Author.Tests.{lt-ltb, le-ltb, eqb-true, le-leb, lt-leb}
+use borrow.Author.Tests.{lt-ltb, le-ltb, le-leb, lt-leb}
 use Rattle.laws.specs.Tests.{bit}
 use Rattle.laws.proofs.Tests.{and-false}
 use Rattle.laws.specs.Listed.{listed, written}
@@ -18,14 +18,15 @@ use Rattle.laws.specs.Up.{Filled}
 use Rattle.laws.proofs.Up.{below-in}
 use Rattle.calculus.specs.Process.{act, out, join, pick, flow}
 use Rattle.calculus.specs.Status.{Value, Unset, False, True, Links}
-use Rattle.calculus.specs.Places.{Turn, takes, drops, cleans, own}
+use Rattle.calculus.specs.Places.{Turn, takes, drops, cleans}
 use Rattle.calculus.specs.Steps.{joinTurn, turnOf}
 use Rattle.conditions.specs.Numbers.{digit}
-use Rattle.steps.specs.Rows.{Row, NIL, PREFIX, BRANCH, firstOf, isSource, Kids}
+use Rattle.steps.specs.Rows.{Row, NIL, PREFIX, BRANCH, firstOf, Kids}
 use Rattle.steps.specs.Marks.{Marks}
 use Rattle.steps.specs.InFront.{waiting, waitingStep, reached, inFront}
 use Rattle.sheet.specs.Table.{Table, rowBy, rowAt, evalIn}
 use Rattle.sheet.specs.Accepted.{WellFormed}
+use Rattle.sheet.proofs.Accepted.{source-out}
 use Rattle.evaluate.specs.Values.{Evaluated}
 use Rattle.evaluate.proofs.Rows.{getD-any}
 use Rattle.state.specs.declared.State.{State}
@@ -159,17 +160,9 @@ kind-inside : (t : Table) (s : State) (r : ℕ) → isStep (kindAt t s r) ≡ tr
 unfolding kindFrom
 kind-inside t s r e = by-cases (decLt r (t .n)) (λ h. h) (λ h. absurd (true≢false (sym e ∙ (ap isStep (kind-from t s r) ∙ rw (le-ltb r (t .n) (omega arith)) refl))))
 
-source-of : (N : Row) (l : ℕ) → isSource N l ≡ true → (b : Bool) × (c : ℕ) × (N ≡ PREFIX (out l b) c)
-unfolding isSource own
-source-of NIL l e = absurd (true≢false (sym e))
-source-of (PREFIX (act a) c) l e = absurd (true≢false (sym e))
-source-of (PREFIX (out k b) c) l e = (b, c, ap (λ (x : ℕ). PREFIX (out x b) c) (sym (eqb-true l k e)))
-source-of (PREFIX (join q) c) l e = absurd (true≢false (sym e))
-source-of (BRANCH κ p q) l e = absurd (true≢false (sym e))
-
 own-small : (t : Table) → WellFormed t → (r : ℕ) → r < t .n → OwnBelow (nodes t r)
 unfolding OwnBelow
-own-small t w r h l e = let (b, c, f) = source-of (nodes t r) l e in let z : l < t .m = w .outs r l c b h f in let y : t .m ≤ 64 = w .few-links in omega arith
+own-small t w r h l e = let (b, c, f) = source-out (nodes t r) l e in let z : l < t .m = w .outs r l c b h f in let y : t .m ≤ 64 = w .few-links in omega arith
 
 abbrev isClean : StepKind → Bool
 isClean (Act a) = false

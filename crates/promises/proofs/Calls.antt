@@ -2,14 +2,17 @@
 use Prim.Native.Nat.{ℕ, _≤_}
 use mathlib.Core.Path.{_≡_, refl, sym, _∙_, ap, ap₂, subst}
 use mathlib.Core.Bool.{true, true≢false}
+use mathlib.Core.Option.{some}
 use mathlib.Core.List.{List, _∷_, _++_, List·Memᴰ, List·Memᴰ·not-nil}
-use mathlib.Core.Logic.{by-cases, _↔_}
+use mathlib.Core.Logic.{_⊎_, inl, inr, by-cases, _↔_}
 use native.Mathlib.Omega.{arith}
 use native.Mathlib.Decide.{ℕ-discrete}
 use lib.ListN.{length, take, drop, replicate, length-replicate}
 use lib.Seq.{take-at}
 use Rattle.laws.specs.Checks.{checked}
 use Rattle.laws.proofs.Listed.{listed-length}
+use Rattle.calculus.specs.Places.{Turn, takes, drops}
+use Rattle.steps.specs.InFront.{waitingSteps}
 use Rattle.sheet.specs.declared.Refusal.{Refusal}
 use Rattle.sheet.specs.Table.{Table}
 use Rattle.sheet.specs.Rules.{refuse, refusalOf}
@@ -17,11 +20,14 @@ use Rattle.sheet.specs.Accepted.{WellFormed, SingleSource}
 use Rattle.sheet.proofs.Accepted.{meets, well-formed, single-source}
 use Rattle.codec.specs.declared.SizeAnswer.{SizeAnswer}
 use Rattle.state.specs.declared.State.{State}
-use Rattle.moves.specs.Steps.{Sized, kindAt, hasStep, listedOf, steppedOf}
+use Rattle.state.specs.declared.StepKind.the-variants.{Clean}
+use Rattle.moves.specs.Steps.{marksOf, Sized, nodes, turnAt, kindTurned, kindAt, hasStep, listedOf, steppedOf}
+use Rattle.moves.specs.Runs.{Taken}
 use Rattle.moves.specs.Runs.{Run as Steps, over as ended, take as stepping, taken as stepsTaken, last as lastState}
 use Rattle.moves.proofs.Allowed.{listed-rows}
-use Rattle.moves.proofs.Moves.{step-kept}
+use Rattle.moves.proofs.Moves.{has-turn, takes-kind, step-kept}
 use Rattle.moves.proofs.Fits.{fits-step}
+use Rattle.moves.proofs.Kept.{run-length}
 use Rattle.fitting.specs.Checks.{stateChecks}
 use Rattle.fitting.proofs.Fitted.{fits-accepted, accepts-fitting}
 use Rattle.engine.specs.declared.Stepped.{Stepped}
@@ -37,6 +43,10 @@ formed {t} a = well-formed t (meets t (a .table))
 
 pub one-source : {t : Table} {s : State} → Accepted t s → SingleSource t
 one-source {t} a = single-source t (meets t (a .table))
+
+drops-kind : (t : Table) (s : State) (r : ℕ) → turnAt t s r ≡ some drops → kindAt t s r ≡ Clean
+unfolding kindAt kindTurned
+drops-kind t s r q = rw q refl
 
 module _ (t : Table) (s : State) where
   -- the refusal of a call with a state
@@ -89,6 +99,14 @@ module _ (t : Table) (s : State) where
     unfolding takenAnswer
     state-is r = ap (λ (k : Stepped). k .state) (step-is r)
 
+    -- a listed step takes its row or drops it
+    pub turned : (r : ℕ) → List·Memᴰ r (listedRows t s) → ((turnAt t s r ≡ some takes) × (kindAnswer t s r ≡ Clean → ⊥)) ⊎ ((turnAt t s r ≡ some drops) × (kindAnswer t s r ≡ Clean))
+    turned r m = let (u, q) = has-turn t s r (row-listed r .0 m) in at u q
+      where
+        at : (u : Turn) → turnAt t s r ≡ some u → ((turnAt t s r ≡ some takes) × (kindAnswer t s r ≡ Clean → ⊥)) ⊎ ((turnAt t s r ≡ some drops) × (kindAnswer t s r ≡ Clean))
+        at takes q = inl (q, λ e. takes-kind t s r q (sym (kind-is r) ∙ e))
+        at drops q = inr (q, kind-is r ∙ drops-kind t s r q)
+
     -- the state after a step is one of the table
     stepped : (r : ℕ) → hasStep t s r ≡ true → Accepted t (steppedOf t s r)
     stepped r h =
@@ -139,3 +157,12 @@ pub run-sized : {t : Table} {s : State} → Sized s → (G : Run t s) → Sized 
 unfolding last
 run-sized size over = size
 run-sized {t} {s} size (more r m ok G) = run-sized (taken-keeps t s size r ok .sized) G
+
+-- a run is no longer than its rows that wait
+pub run-short : {t : Table} {s : State} → Sized s → (G : Run t s) → length (taken G) ≤ waitingSteps (nodes t) (marksOf s) (t .n)
+unfolding taken
+run-short size over = omega arith
+run-short {t} {s} size (more r m ok G) =
+    let a = taken-accepted t s size r ok in
+    let (R, p, _) = to-steps size (more r m ok G) in
+    subst (λ (l : List Taken). length l ≤ waitingSteps (nodes t) (marksOf s) (t .n)) p (run-length t (formed a) size R)

@@ -1,7 +1,10 @@
+pub mod Demand1
+pub mod Demand2
+pub mod Demand3
+pub mod Cases
+-- what they rest on
 pub mod Refused
+pub mod Verdict
 pub mod Calls
 pub mod Alike
 pub mod Fresh
-pub mod Demand1
-pub mod Demand3
-pub mod Cases

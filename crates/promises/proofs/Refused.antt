@@ -1,8 +1,7 @@
 -- The first check that fails decides every answer. Assumes nothing.
 use Prim.Native.Nat.{ℕ, _+_, _-_, _*_, _/_, _<_, _≤_}
 use mathlib.Core.Path.{_≡_, refl, sym, _∙_, ap, subst}
-use mathlib.Core.Bool.{true, false, cond, true≢false}
-use mathlib.Core.Option.{Option, none, some}
+use mathlib.Core.Bool.{true, cond}
 use mathlib.Core.List.{List, [], _∷_}
 use mathlib.Core.Logic.{_⊎_, inl, inr, ⊎-elim, by-cases}
 use native.Mathlib.Omega.{arith}
@@ -13,25 +12,19 @@ use lib.Seq.{length-take-le}
 use borrow.Author.Tests.{le-leb}
 use Rattle.laws.specs.Lowest.{lowest}
 use Rattle.laws.specs.Checks.{Check, placeOf, Holds, checked, AllHold}
-use Rattle.laws.proofs.Tests.{cases, not-both}
 use Rattle.laws.proofs.Lowest.{lowest-from, lowest-below, lowest-at}
-use Rattle.laws.proofs.Checks.{checked-fails, checked-holds, checked-append, place-holds, holds-end, all-hold}
-use Rattle.calculus.specs.Places.{Turn}
-use Rattle.steps.specs.Rows.{Row}
+use Rattle.laws.proofs.Checks.{checked-fails, checked-holds, checked-append, place-is, place-holds, holds-end, all-hold}
 use Rattle.sheet.specs.Table.{Table}
 use Rattle.sheet.specs.Rules.{sized, sizes, from3}
 use Rattle.sheet.specs.Sheet.{numberAt, headOf, termsOf, conditionsOf, sheetSize, contents, tableIn, sheetChecks}
-use Rattle.sheet.proofs.Refusals.{one-place-fails, one-place-holds}
 use Rattle.codec.proofs.Reading.{bodies}
 use Rattle.state.specs.declared.State.{State}
-use Rattle.state.specs.declared.StepKind.{StepKind}
 use Rattle.state.specs.declared.StepKind.the-variants.{Refused}
-use Rattle.moves.specs.Steps.{nodes, turnAt, kindTurned, kindAt, isSome, hasStep, steppedOf}
-use Rattle.engine.specs.declared.Stepped.{Stepped}
-use Rattle.engine.specs.ByValue.{takenAnswer}
-use Rattle.engine.proofs.Known.{kind-step, answer-refused}
-use Rattle.sheet_engine.specs.Answers.{callChecks, kindAnswer, notTaken, stepAnswer}
-use Rattle.promises.specs.Refused.{FirstFails, Answered, readChecks, rowCheck, stepChecks}
+use Rattle.moves.specs.Steps.{kindAt}
+use Rattle.sheet_engine.specs.Answers.{kindAnswer, notTaken, stepAnswer}
+use Rattle.sheet_engine.specs.Values.{rowChecks, wasTaken}
+use Rattle.sheet_engine.proofs.Steps.{kind-checked, step-checked}
+use Rattle.promises.specs.Refused.{FirstFails, Answered, readChecks}
 
 -- a check that fails does so at its place, the lowest
 check-fails : (c : Check) (cs : List Check) → placeOf c < c .upto → FirstFails (c ∷ cs) (c .number) (placeOf c)
@@ -74,24 +67,12 @@ either (c ∷ cs) =
     (λ h. let holds = place-holds c (placeOf c) refl (omega arith) in
     ⊎-elim (λ all. inl (holds, all)) (λ (n, p, f). inr (n, p, later-fails c cs (holds, tt) f)) (either cs))
 
--- the place of a first failure is the check's
-its-place : {cs : List Check} {n p : ℕ} (f : FirstFails cs n p) → p ≡ placeOf (f .check)
-unfolding placeOf
-its-place {p = p} f =
-    let c = f .check in
-    let x : ℕ = lowest (c .rule) (c .from) (c .upto - c .from) in
-    by-cases (decLt p x)
-    (λ h. absurd (not-both (lowest-below (c .rule) (c .from) (c .upto - c .from) p (f .from) h) (f .breaks)))
-    (λ h. by-cases (decLt x p)
-    (λ g. let l = lowest-from (c .rule) (c .from) (c .upto - c .from) in let i = f .inside in absurd (not-both (f .lowest x l g) (lowest-at (c .rule) (c .from) (c .upto - c .from) (omega arith))))
-    (λ g. omega arith))
-
 pub first-fails : {A : Type 0} (refused : ℕ → ℕ → A) (good : A) {cs : List Check} {n p : ℕ} → FirstFails cs n p → checked refused good cs ≡ refused n p
 first-fails {A} refused good {cs} {n} {p} f =
     ap (checked refused good) (f .order)
     ∙ (checked-append refused good (f .before) (f .check ∷ f .after)
     ∙ (all-hold refused (checked refused good (f .check ∷ f .after)) (f .before) (f .before-hold)
-    ∙ (sym (checked-fails refused good (f .check) (f .after) p (its-place f) (f .inside))
+    ∙ (sym (checked-fails refused good (f .check) (f .after) p (place-is (f .check) p (f .from) (f .lowest) (f .inside) (f .breaks)) (f .inside))
     ∙ ap (λ (x : ℕ). refused x p) (f .its-number))))
 
 -- AN ANSWER BY CHECKS is the good one or the refusal of the first that fails
@@ -133,41 +114,10 @@ sheet-answered refused good s =
     (ap (cond (ltb (placeOf (sheetSize (length s))) 1) (refused 1 (placeOf (sheetSize (length s))))) (sym (skipped refused good (contents s) (sizes (headOf s .n) (headOf s .k) (length (termsOf s)) (length (conditionsOf s))) (from3 (tableIn s)) (λ h p low high. parts-sized s h))))
     (answered refused good (readChecks s))
 
--- THE STEP OF A ROW: 11 is the last check
+-- THE STEP OF A ROW
 module _ (t : Table) (s : State) (row : ℕ) where
-  none-refused : (N : Row) (o : Option Turn) → isSome o ≡ false → kindTurned N row o ≡ Refused 11 row
-  unfolding kindTurned
-  none-refused N none e = refl
-  none-refused N (some u) e = absurd (true≢false e)
+  pub kind-answered : Answered Refused (kindAt t s row) (rowChecks t s row) (kindAnswer t s row)
+  kind-answered = rw (kind-checked t s row) (answered Refused (kindAt t s row) (rowChecks t s row))
 
-  no-kind : hasStep t s row ≡ false → kindAt t s row ≡ Refused 11 row
-  unfolding hasStep kindAt
-  no-kind e = none-refused (nodes t row) (turnAt t s row) e
-
-  -- what taking it answers, by that check alone
-  kind-checked : kindAt t s row ≡ checked Refused (kindAt t s row) (rowCheck t s row ∷ [])
-  unfolding checked
-  kind-checked =
-      ⊎-elim
-      (λ e. one-place-holds Refused (kindAt t s row) (rowCheck t s row) [] (omega arith) e)
-      (λ e. no-kind e ∙ one-place-fails Refused (kindAt t s row) (rowCheck t s row) [] (omega arith) e)
-      (cases (hasStep t s row))
-
-  abbrev good : Stepped
-  good = record { ok = true; answer = kindAt t s row; state = steppedOf t s row }
-
-  step-checked : takenAnswer t s row ≡ checked (notTaken s) good (rowCheck t s row ∷ [])
-  unfolding takenAnswer checked
-  step-checked =
-      ⊎-elim
-      (λ e. (λ i. record { ok = (kind-step t s row ∙ e) i; answer = kindAt t s row; state = steppedOf t s row }) ∙ one-place-holds (notTaken s) good (rowCheck t s row) [] (omega arith) e)
-      (λ e. sym (answer-refused t s row (kindAt t s row) refl (kind-step t s row ∙ e)) ∙ ((λ i. record { ok = false; answer = no-kind e i; state = s }) ∙ one-place-fails (notTaken s) good (rowCheck t s row) [] (omega arith) e))
-      (cases (hasStep t s row))
-
-  pub kind-answered : Answered Refused (kindAt t s row) (stepChecks t s row) (kindAnswer t s row)
-  unfolding kindAnswer
-  kind-answered = subst (Answered Refused (kindAt t s row) (stepChecks t s row)) (checked-append Refused (kindAt t s row) (callChecks t s) (rowCheck t s row ∷ []) ∙ ap (λ (k : StepKind). checked Refused k (callChecks t s)) (sym kind-checked)) (answered Refused (kindAt t s row) (stepChecks t s row))
-
-  pub step-answered : Answered (notTaken s) good (stepChecks t s row) (stepAnswer t s row)
-  unfolding stepAnswer
-  step-answered = subst (Answered (notTaken s) good (stepChecks t s row)) (checked-append (notTaken s) good (callChecks t s) (rowCheck t s row ∷ []) ∙ ap (λ (k : Stepped). checked (notTaken s) k (callChecks t s)) (sym step-checked)) (answered (notTaken s) good (stepChecks t s row))
+  pub step-answered : Answered (notTaken s) (wasTaken t s row) (rowChecks t s row) (stepAnswer t s row)
+  step-answered = rw (step-checked t s row) (answered (notTaken s) (wasTaken t s row) (rowChecks t s row))

@@ -4,12 +4,16 @@ use mathlib.Core.Path.{_≡_}
 use mathlib.Core.Bool.{true}
 use mathlib.Core.List.{List, [], _∷_, map, List·Memᴰ}
 use lib.ListN.{getD, length, take, replicate}
-use Rattle.sheet.specs.Table.{Table}
+use Rattle.calculus.specs.Process.{Process}
+use Rattle.calculus.specs.Status.{Links}
+use Rattle.calculus.specs.Plain.{Label}
+use Rattle.calculus.specs.Rules.{Rule}
+use Rattle.sheet.specs.Table.{Table, evalIn}
 use Rattle.sheet.specs.Rules.{refusalOf}
 use Rattle.codec.specs.declared.SizeAnswer.{SizeAnswer}
 use Rattle.codec.specs.declared.SizeAnswer.the-variants.{Size, Refused}
 use Rattle.state.specs.declared.State.{State}
-use Rattle.moves.specs.Steps.{Sized}
+use Rattle.moves.specs.Steps.{modeOf, linksOf, Sized, leftIn}
 use Rattle.moves.specs.Fits.{Fits}
 use Rattle.moves.specs.Runs.{Taken}
 use Rattle.sheet_engine.specs.Answers.{startAnswer, listAnswer, listBuffer, kindAnswer, stepAnswer}
@@ -45,10 +49,18 @@ listedRows t s = listedIn t s (replicate 256 0)
 abbrev pub listedSteps : Table → State → List Taken
 listedSteps t s = map (λ row. record { row = row; kind = kindAnswer t s row }) (listedRows t s)
 
+-- the state after the step of a row, as `take_step` hands it out
+abbrev pub next : Table → State → ℕ → State
+next t s row = stepAnswer t s row .state
+
+-- R's rules allow a step in a state: of what is left of the sheet, under the state's links, in its mode
+abbrev pub Allowed : Table → State → Label → Process → Links → Type 0
+Allowed t s α P v = Rule (evalIn t) (modeOf (s .mode)) (leftIn t s) (linksOf s) α P v
+
 -- A run of the calls: rows, each listed by `list_steps` and taken by `take_step` in the state before, which hands out the state after.
 pub data Run (t : Table) : State → Type 0 where
   over : {s : State} → Run t s
-  more : {s : State} (row : ℕ) → List·Memᴰ row (listedRows t s) → stepAnswer t s row .ok ≡ true → Run t (stepAnswer t s row .state) → Run t s
+  more : {s : State} (row : ℕ) → List·Memᴰ row (listedRows t s) → stepAnswer t s row .ok ≡ true → Run t (next t s row) → Run t s
 
 -- its steps, with the kinds that `take_step` answered, and the state after it
 unfoldable pub taken : {t : Table} {s : State} → Run t s → List Taken

@@ -1,17 +1,13 @@
--- Document 01, "Refusal numbers": "The checks run in the order of the numbers; a call skips those that do not concern it. The first failure is given, and only for its cause." What that says of an answer, and check 11.
-use Prim.Native.Nat.{ℕ, suc, _<_, _≤_}
+-- Document 01, "Refusal numbers": "The checks run in the order of the numbers; a call skips those that do not concern it. The first failure is given, and only for its cause." What that says of an answer.
+use Prim.Native.Nat.{ℕ, _<_, _≤_}
 use mathlib.Core.Path.{_≡_}
 use mathlib.Core.Bool.{true, false}
-use mathlib.Core.List.{List, [], _∷_, _++_}
+use mathlib.Core.List.{List, _∷_, _++_}
 use mathlib.Core.Logic.{_⊎_}
 use lib.ListN.{length}
 use Rattle.laws.specs.Checks.{Check, AllHold}
-use Rattle.sheet.specs.Table.{Table}
 use Rattle.sheet.specs.Rules.{from3}
 use Rattle.sheet.specs.Sheet.{sheetSize, contents, tableIn}
-use Rattle.state.specs.declared.State.{State}
-use Rattle.moves.specs.Steps.{hasStep}
-use Rattle.sheet_engine.specs.Answers.{callChecks}
 
 -- the first check of a list that fails, and its lowest place
 pub record FirstFails (checks : List Check) (number place : ℕ) : Type 0 where
@@ -34,11 +30,3 @@ Answered refused good checks answer =
 -- the checks of a sheet: 1, 2, and those of the table of its parts from 3 on, for its parts have the sizes that 2 gives them
 abbrev pub readChecks : List ℕ → List Check
 readChecks s = sheetSize (length s) ∷ (contents s ∷ from3 (tableIn s))
-
--- 11: "the row asked for has no step", place "that row"
-abbrev pub rowCheck : Table → State → ℕ → Check
-rowCheck t s row = record { number = 11; from = row; upto = suc row; rule = hasStep t s }
-
--- the checks of a call for the step of a row
-abbrev pub stepChecks : Table → State → ℕ → List Check
-stepChecks t s row = callChecks t s ++ (rowCheck t s row ∷ [])

@@ -1,9 +1,10 @@
 -- The answers of the calls with a state, from what the judge, the fit and the engine say. Assumes nothing.
 use Prim.Native.Nat.{ℕ, _<_, _≤_}
 use mathlib.Core.Path.{_≡_, refl, sym, _∙_, ap}
-use mathlib.Core.Bool.{Bool, true, false, cond, not}
+use mathlib.Core.Bool.{Bool, true, false, cond, not, true≢false}
 use mathlib.Core.List.{List, [], _∷_, _++_}
-use mathlib.Core.Logic.{by-cases}
+use mathlib.Core.Option.{Option, none, some}
+use mathlib.Core.Logic.{⊎-elim, by-cases}
 use native.Mathlib.Omega.{arith}
 use native.Mathlib.Decide.{ℕ-discrete}
 use lib.Dec.{eqb, ltb}
@@ -11,8 +12,9 @@ use lib.ListN.{length}
 use borrow.Author.Tests.{le-leb, lt-leb}
 use Rattle.laws.specs.Checks.{Check, placeOf, checked}
 use Rattle.laws.specs.Listed.{written}
-use Rattle.laws.proofs.Tests.{and-r}
+use Rattle.laws.proofs.Tests.{cases, and-r}
 use Rattle.laws.proofs.Checks.{checked-append}
+use Rattle.calculus.specs.Places.{Turn}
 use Rattle.sheet.specs.declared.Refusal.{Refusal}
 use Rattle.sheet.specs.Table.{Table}
 use Rattle.sheet.specs.Rules.{tableChecks, refuse, refusalOf}
@@ -24,14 +26,15 @@ use Rattle.codec.specs.declared.SizeAnswer.the-variants as size
 use Rattle.state.specs.declared.State.{State}
 use Rattle.state.specs.declared.StepKind.{StepKind}
 use Rattle.state.specs.declared.StepKind.the-variants as kind
-use Rattle.moves.specs.Steps.{listedOf, kindAt}
+use Rattle.moves.specs.Steps.{nodes, turnAt, kindTurned, kindAt, isSome, hasStep, listedOf, steppedOf}
 use Rattle.moves.specs.Fits.{modeCheck, fitChecks}
 use Rattle.fitting.specs.Checks.{stateChecks}
 use Rattle.fitting.proofs.Fitted.{state-checks}
 use Rattle.engine.specs.declared.Stepped.{Stepped}
 use Rattle.engine.specs.ByValue.{takenAnswer}
-use Rattle.engine.proofs.Known.{answer-refused}
+use Rattle.engine.proofs.Known.{kind-step, answer-refused}
 use Rattle.sheet_engine.specs.Answers.{callChecks, listAnswer, listBuffer, kindAnswer, notTaken, stepAnswer}
+use Rattle.sheet_engine.specs.Values.{rowCheck, rowChecks, wasTaken}
 
 -- where none of two lists of checks fails, none of the first does
 first-accepted : (cs ds : List Check) → numbered cs ≡ true → checked refuse (refuse 0 0) (cs ++ ds) .number ≡ 0 → checked refuse (refuse 0 0) cs .number ≡ 0
@@ -121,3 +124,33 @@ state-back t s row off =
     let k = step-given t s _ refl row _ e refl in
     sym (ap (λ (r : Stepped). r .state) (answer-refused t s row _ refl (ap (λ (r : Stepped). r .ok) k ∙ off) ∙ k)))
     (λ h. sym (ap (λ (r : Stepped). r .state) (step-refused t s _ refl row h)))
+
+-- THE STEP OF A ROW: 11 is the last check
+module _ (t : Table) (s : State) (row : ℕ) where
+  pub no-kind : hasStep t s row ≡ false → kindAt t s row ≡ kind.Refused 11 row
+  unfolding hasStep kindAt kindTurned
+  no-kind e = at (turnAt t s row) e
+    where
+      at : (o : Option Turn) → isSome o ≡ false → kindTurned (nodes t row) row o ≡ kind.Refused 11 row
+      at none e = refl
+      at (some u) e = absurd (true≢false e)
+
+  pub kind-checked : kindAnswer t s row ≡ checked kind.Refused (kindAt t s row) (rowChecks t s row)
+  unfolding kindAnswer checked
+  kind-checked =
+      ap (λ (k : StepKind). checked kind.Refused k (callChecks t s))
+      (⊎-elim
+      (λ e. one-place-holds kind.Refused (kindAt t s row) (rowCheck t s row) [] refl e)
+      (λ e. no-kind e ∙ one-place-fails kind.Refused (kindAt t s row) (rowCheck t s row) [] (omega arith) e)
+      (cases (hasStep t s row)))
+      ∙ sym (checked-append kind.Refused (kindAt t s row) (callChecks t s) (rowCheck t s row ∷ []))
+
+  pub step-checked : stepAnswer t s row ≡ checked (notTaken s) (wasTaken t s row) (rowChecks t s row)
+  unfolding stepAnswer takenAnswer checked
+  step-checked =
+      ap (λ (k : Stepped). checked (notTaken s) k (callChecks t s))
+      (⊎-elim
+      (λ e. (λ i. record { ok = (kind-step t s row ∙ e) i; answer = kindAt t s row; state = steppedOf t s row }) ∙ one-place-holds (notTaken s) (wasTaken t s row) (rowCheck t s row) [] refl e)
+      (λ e. sym (answer-refused t s row (kindAt t s row) refl (kind-step t s row ∙ e)) ∙ ((λ i. record { ok = false; answer = no-kind e i; state = s }) ∙ one-place-fails (notTaken s) (wasTaken t s row) (rowCheck t s row) [] (omega arith) e))
+      (cases (hasStep t s row)))
+      ∙ sym (checked-append (notTaken s) (wasTaken t s row) (callChecks t s) (rowCheck t s row ∷ []))

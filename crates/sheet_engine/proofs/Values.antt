@@ -36,6 +36,7 @@ use Rattle.engine.specs.declared.Stepped.{Stepped}
 use Rattle.engine.specs.ByValue.{takenAnswer}
 use Rattle.sheet_engine.specs.Answers.{callChecks, listChecks, listAnswer, kindAnswer, notTaken, stepAnswer}
 use Rattle.sheet_engine.specs.Values.{SheetValues, sheetValues, SizeValues, sizeValues, StepValues, stepValues, shownBy, shown, rowCheck, rowChecks, Answers}
+use Rattle.sheet_engine.proofs.Steps.{no-kind}
 
 -- every check holds where none gives its number
 all-held : (cs : List Check) → numbered cs ≡ true → checked refuse (refuse 0 0) cs .number ≡ 0 → AllHold cs
@@ -126,20 +127,12 @@ module _ (t : Table) (s : State) (row : ℕ) where
       at true f e = row-shown (evalIn t) (modeOf (s .mode)) (linksOf s) row _ _ _ _ (out-value _ _ _ _ _ _ _ _ (g .1 .1 .1 .0 row (omega arith) (ltb-true row (t .n) (and-l _ _ (and-l _ _ f))))) e
       at false f e = absurd (true≢false (sym e))
 
-  no-step : hasStep t s row ≡ false → stepValues (kindAt t s row) ≡ stepRefused 11 row
-  unfolding hasStep kindAt kindTurned
-  no-step e = at (turnAt t s row) e
-    where
-      at : (o : Option Turn) → isSome o ≡ false → stepValues (kindTurned (nodes t row) row o) ≡ stepRefused 11 row
-      at none e = refl
-      at (some u) e = absurd (true≢false e)
-
   row-told : AllHold (callChecks t s) → stepValues (kindAt t s row) ≡ checked stepRefused (shown t s row) (rowCheck t s row ∷ [])
   unfolding checked
   row-told g =
       ⊎-elim
       (λ e. step-shown g e ∙ one-place-holds stepRefused (shown t s row) (rowCheck t s row) [] refl e)
-      (λ e. no-step e ∙ one-place-fails stepRefused (shown t s row) (rowCheck t s row) [] (omega arith) e)
+      (λ e. ap stepValues (no-kind t s row e) ∙ one-place-fails stepRefused (shown t s row) (rowCheck t s row) [] (omega arith) e)
       (cases (hasStep t s row))
 
   kind-told : stepValues (kindAnswer t s row) ≡ checked stepRefused (shown t s row) (rowChecks t s row)

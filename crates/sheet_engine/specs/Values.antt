@@ -1,7 +1,7 @@
 -- Document 01: "Where an answer is an enum, a definition gives this paper's number and values for each of its cases, and the promises use it." What the values have to be.
 use Prim.Native.Nat.{ℕ, _+_, _*_, _<_, _≤_}
 use mathlib.Core.Path.{_≡_}
-use mathlib.Core.Bool.{cond}
+use mathlib.Core.Bool.{true, cond}
 use mathlib.Core.List.{List, [], _∷_, _++_}
 use mathlib.Core.Logic.{_↔_}
 use lib.Dec.{eqb}
@@ -21,7 +21,8 @@ use Rattle.codec.specs.declared.SizeAnswer.the-variants as size
 use Rattle.state.specs.declared.State.{State}
 use Rattle.state.specs.declared.StepKind.{StepKind}
 use Rattle.state.specs.declared.StepKind.the-variants as kind
-use Rattle.moves.specs.Steps.{linksOf, hasStep}
+use Rattle.moves.specs.Steps.{linksOf, kindAt, hasStep, steppedOf}
+use Rattle.engine.specs.declared.Stepped.{Stepped}
 use Rattle.sheet_engine.specs.Answers.{callChecks}
 use Rattle.sheet_engine.specs.declared.VerdictAnswer.{VerdictAnswer}
 use Rattle.sheet_engine.specs.declared.VerdictAnswer.the-variants.{Pass, Fail, Refused}
@@ -103,6 +104,10 @@ rowCheck t s row = record { number = 11; from = row; upto = row + 1; rule = hasS
 
 abbrev pub rowChecks : Table → State → ℕ → List Check
 rowChecks t s row = callChecks t s ++ (rowCheck t s row ∷ [])
+
+-- the step of a row, taken
+abbrev pub wasTaken : Table → State → ℕ → Stepped
+wasTaken t s row = record { ok = true; answer = kindAt t s row; state = steppedOf t s row }
 
 -- "The first failure is given ... and all else in the answer is 0": the values a of a call that makes the checks, whose number is 0 exactly if all hold
 pub record Answers {A : Type 0} (number : A → ℕ) (refused : ℕ → ℕ → A) (good : A) (cs : List Check) (a : A) : Type 0 where

@@ -1,0 +1,217 @@
+-- DEMAND 2: what the calls answer follows document 01, and through it report R. Assumes nothing.
+use Prim.Native.Nat.{ℕ, _*_, _<_, _≤_}
+use mathlib.Core.Path.{_≡_, refl, sym, _∙_, ap, subst}
+use mathlib.Core.Bool.{Bool, true}
+use mathlib.Core.List.{List, List·Memᴰ, _++_}
+use mathlib.Core.Logic.{_⊎_, inl, inr, ⊎-elim, _↔_}
+use lib.ListN.{getD, length, take, drop}
+use Rattle.laws.specs.Tests.{Set}
+use Rattle.laws.specs.Checks.{Holds}
+use Rattle.laws.specs.Listed.{Rising}
+use Rattle.laws.proofs.Checks.{checked-map}
+use Rattle.laws.proofs.Listed.{listed-rising}
+use Rattle.calculus.specs.Process.{Process, join}
+use Rattle.calculus.specs.Typing.{Types}
+use Rattle.calculus.specs.Status.{Value, Unset, True, Links}
+use Rattle.calculus.specs.Plain.{Label}
+use Rattle.calculus.specs.Places.{sets, takes, drops, Grows}
+use Rattle.calculus.specs.Order.{_⊑_, Condition1}
+use Rattle.calculus.specs.Rows.{rows, row-of}
+use Rattle.conditions.specs.Operators.{Operator, table}
+use Rattle.conditions.specs.Conditions.{Condition, condition, reached, lazy, value}
+use Rattle.conditions.specs.Numbers.{digit}
+use Rattle.conditions.proofs.Operators.{meaning, table-means}
+use Rattle.conditions.proofs.Evaluation.{strict-unset, strict-lazy, value-1}
+use Rattle.steps.specs.Rows.{PREFIX, Child, term}
+use Rattle.steps.specs.InFront.{waiting, waitingStep, waitingSteps}
+use Rattle.steps.specs.Verdict.{SheetPasses}
+use Rattle.steps.proofs.Sources.{typable}
+use Rattle.sheet.specs.declared.Head.{Head}
+use Rattle.sheet.specs.Table.{Table, tableOf, rowAt, conditionRowAt, lazyOf, evaluationOf, evalIn, processOf}
+use Rattle.sheet.specs.Rules.{terms, tree, oneSource, refuse, refusalOf}
+use Rattle.sheet.specs.Accepted.{WellFormed, SingleSource, Narrow}
+use Rattle.sheet.specs.Sheet.{sizeOf, headOf, termsOf, conditionsOf, sheetSize, contents, tableIn}
+use Rattle.sheet.proofs.Accepted.{meets, well-formed, single-source, narrow-joins, rows-tree, one-source}
+use Rattle.codec.specs.declared.SheetAnswer.the-variants as sheet
+use Rattle.codec.specs.declared.SizeAnswer.the-variants as size
+use Rattle.codec.specs.Answers.{readOf, partOf, writeOf, writtenOf}
+use Rattle.codec.proofs.Judged.{accepted-is, is-accepted}
+use Rattle.codec.proofs.RoundTrip.{read-then-written, written-front, written-then-read, size-told, terms-handed, conditions-handed}
+use Rattle.codec.proofs.Parts.{part-whole}
+use Rattle.state.specs.declared.State.{State}
+use Rattle.state.specs.declared.StepKind.the-variants.{Clean}
+use Rattle.state.specs.State.{sideMark}
+use Rattle.moves.specs.Steps.{marksOf, linksOf, Sized, leftIn, kindIn, hasStep, listedOf, steppedOf, isWaitingPick}
+use Rattle.moves.specs.Fits.{waitsFit, clearFit}
+use Rattle.moves.proofs.Below.{Below, waits-said}
+use Rattle.moves.proofs.Clear.{clear-said}
+use Rattle.moves.proofs.Allowed.{listed-allowed as steps-allowed, allowed-listed as allowed-steps}
+use Rattle.moves.proofs.Frame.{PickAbove}
+use Rattle.moves.proofs.Decided.{row-marked, pick-decided}
+use Rattle.moves.proofs.Kept.{nothing-else as nothing-else-steps}
+use Rattle.engine.specs.declared.Stepped.{Stepped}
+use Rattle.engine.specs.ByValue.{takenAnswer}
+use Rattle.sheet_engine.specs.declared.VerdictAnswer.the-variants.{Pass, Fail}
+use Rattle.sheet_engine.specs.Answers.{verdictAnswer, callChecks, kindAnswer, notTaken, stepAnswer}
+use Rattle.sheet_engine.specs.Values.{FailsAt}
+use Rattle.sheet_engine.proofs.Promises.{pass-answered, fail-answered, fail-values}
+use Rattle.promises.specs.Calls.{Accepted, freshIn, link, listedIn, listedRows, next, Allowed, Run, taken}
+use Rattle.promises.proofs.Calls.{formed, one-source as one-source-in, kind-is, listed-is, rows-are, row-listed, ok-is, state-is, turned, taken-accepted, listed-accepted, taken-keeps, run-short}
+use Rattle.promises.proofs.Alike.{link-is}
+use Rattle.promises.proofs.Fresh.{fresh-accepted}
+use Rattle.promises.proofs.Verdict.{offending}
+
+-- THE SHEET. Its head is handed out exactly if 1 and 2 hold and the table of its parts is accepted.
+pub sheet-accepted : (s : List ℕ) (h : Head) → (readOf s ≡ sheet.Sheet h) ↔ (Holds (sheetSize (length s)) × Holds (contents s) × (refusalOf (tableIn s) ≡ refuse 0 0) × (h ≡ headOf s))
+sheet-accepted s h = (
+  λ e. let r = accepted-is s h e in (r .size, r .sound, r .table, r .head),
+  λ (one, two, table, head). is-accepted s h record { size = one; sound = two; table = table; head = head },
+)
+
+-- "A child's number is greater than its parent's. Every row but 0 is the child of exactly one row, once." "no two OUT rows name the same link." "At most 8 distinct links may be reached from a JOIN's condition."
+pub table-accepted : (t : Table) → refusalOf t .number ≡ 0 → WellFormed t × SingleSource t × Narrow t
+table-accepted t e = let g = meets t e in (well-formed t g, single-source t g, narrow-joins t g)
+
+-- "Reading an accepted sheet and writing it again gives its bytes"
+pub read-then-write : (s : List ℕ) (h : Head) → ((i : ℕ) → getD s i 0 < 256) → readOf s ≡ sheet.Sheet h → (out : List ℕ) → length s ≤ length out → (writeOf h (partOf s (termsOf s)) (partOf s (conditionsOf s)) (length out) ≡ size.Size (length s)) × (writtenOf h (partOf s (termsOf s)) (partOf s (conditionsOf s)) out ≡ s ++ drop (length s) out)
+read-then-write s h bytes e out room = rw (← part-whole s (termsOf s) (readOf s) refl h e, ← part-whole s (conditionsOf s) (readOf s) refl h e) (read-then-written s h bytes e out room)
+
+-- "writing an accepted table and reading it gives that table": its head, its n term rows and its k condition rows
+module _ (h : Head) (ts cs : List ℕ) (accepted : refusalOf (tableOf h ts cs) .number ≡ 0) (out : List ℕ) (room : sizeOf h ≤ length out) where
+  -- what was written
+  abbrev sheetWritten : List ℕ
+  sheetWritten = take (sizeOf h) (writtenOf h ts cs out)
+
+  pub write-then-read : (writeOf h ts cs (length out) ≡ size.Size (sizeOf h)) × (readOf sheetWritten ≡ sheet.Sheet h) × (partOf sheetWritten (termsOf sheetWritten) ≡ take (4 * h .n) ts) × (partOf sheetWritten (conditionsOf sheetWritten) ≡ take (4 * h .k) cs)
+  write-then-read = (
+    size-told h ts cs accepted out room,
+    written-then-read h ts cs accepted out room,
+    ap (λ (s : List ℕ). partOf s (termsOf s)) (written-front h ts cs accepted out room) ∙ terms-handed h ts cs accepted,
+    ap (λ (s : List ℕ). partOf s (conditionsOf s)) (written-front h ts cs accepted out room) ∙ conditions-handed h ts cs accepted,
+  )
+
+-- LINKS. "Unset 0, false 1, true 2": the bytes of an accepted state are the numbers of R's link values.
+pub link-values : (t : Table) (s : State) → Accepted t s → (l : ℕ) → link s l ≡ digit (linksOf s l)
+link-values = link-is
+
+-- JOIN CONDITIONS. The thirty-six values of the lazy operators are what the operators mean.
+pub operators : (o : Operator) (a b : Value) → table o a b ≡ meaning o a b
+operators = table-means
+
+module _ (t : Table) (q : ℕ) (v : Links) where
+  -- the condition of row q
+  abbrev C : Condition
+  C = condition (conditionRowAt (t .conditions)) q
+
+  -- "Strict evaluation gives unset if any link reached from the condition is unset, else the lazy value."
+  pub strict-value : t .evaluation ≡ 0 → ((l : ℕ) → reached C l ≡ true → v l ≡ Unset → evalIn t q v ≡ Unset) × (((l : ℕ) → reached C l ≡ true → v l ≡ Unset → ⊥) → evalIn t q v ≡ lazy C v)
+  unfolding evaluationOf lazyOf value
+  strict-value e = rw e (strict-unset C v, strict-lazy C v)
+
+  pub lazy-value : t .evaluation ≡ 1 → evalIn t q v ≡ lazy C v
+  unfolding evaluationOf lazyOf value
+  lazy-value e = rw e refl
+
+-- R's condition (1), under both evaluations
+pub condition-1 : (t : Table) (q : ℕ) → Condition1 (evalIn t q)
+condition-1 t q = value-1 (evaluationOf (t .evaluation)) (condition (conditionRowAt (t .conditions)) q)
+
+-- THE SINGLE-SOURCE RULE. "That this equals the typing rules of R is proved": where 1, 5 and 6 hold, 7 holds exactly if the sheet's process is typed.
+pub single-source-typing : (t : Table) → 0 < t .n → Holds (terms (t .m) (t .n) (t .k) (t .terms)) → Holds (tree (t .n) (t .terms)) → Holds (oneSource (t .m) (t .n) (t .terms)) ↔ ((L : Set) × Types (processOf t) L)
+single-source-typing t some five six =
+    let (to, back) = typable (rowAt (t .terms)) (t .n) (rows-tree t five six some) in
+    let (one, check) = one-source t five in
+    (λ seven. back (one seven), λ typed. check (to typed))
+
+-- THE VERDICT. "The sheet passes if the condition of every JOIN row passes" (R, condition 2)
+pub pass-exactly : (t : Table) → (verdictAnswer t ≡ Pass) ↔ ((refusalOf t .number ≡ 0) × SheetPasses (evalIn t) (rowAt (t .terms)) (t .n))
+pass-exactly = pass-answered
+
+-- ""Fail" is given exactly if an offending pair A, B exists": a JOIN row's condition is true in B and not in A, and A is B with some false links unset
+pub fail-exactly : (t : Table) → ((j : ℕ) × (x : ℕ) × (l : ℕ) × (verdictAnswer t ≡ Fail j x l)) ↔ ((refusalOf t .number ≡ 0) × (j : ℕ) × (q : ℕ) × (c : ℕ) × (j < t .n) × (rowAt (t .terms) j ≡ PREFIX (join q) c) × (A : Links) × (B : Links) × (A ⊑ B) × (evalIn t q B ≡ True) × (evalIn t q A ≡ True → ⊥))
+fail-exactly t = (
+  λ (j, x, l, v).
+      let f = fail-values t j x l v in
+      let e = fail-answered t .0 (j, x, l, v) .0 in
+      let (A, B, below, b, a) = offending t e f in
+      (e, j, f .condition, f .child, f .inside, f .is-join, A, B, below, b, a),
+  λ (e, j, q, c, h, is, A, B, below, b, a). fail-answered t .1 (e, λ s. a (s j q c h is A B b below)),
+)
+
+-- "A failure names the lowest JOIN row that fails, a number and a link": the smallest number, and at it the lowest link
+pub fail-names : (t : Table) (j x l : ℕ) → verdictAnswer t ≡ Fail j x l → FailsAt t j x l
+fail-names = fail-values
+
+-- STEPS. `start` hands out a state of the table, and a step keeps it so: no later call refuses it.
+pub fresh-fits : (t : Table) → refusalOf t .number ≡ 0 → (mode : ℕ) → mode ≤ 1 → Accepted t (freshIn t mode)
+fresh-fits = fresh-accepted
+
+pub step-fits : (t : Table) (s : State) → Sized s → (row : ℕ) → stepAnswer t s row .ok ≡ true → Accepted t (next t s row)
+step-fits = taken-keeps
+
+-- (c) "every row below a waiting ACT, OUT or JOIN waits"; (d) "each link set by the remainder is unset"
+pub fits-says : (t : Table) → refusalOf t .number ≡ 0 → (s : State) → (Holds (waitsFit (t .terms) (t .n) (marksOf s)) ↔ ((i k : ℕ) → Below (t .terms) (t .n) i k → waitingStep (rowAt (t .terms) i) (marksOf s i) ≡ true → waiting (rowAt (t .terms) k) (marksOf s k) ≡ true)) × (Holds (clearFit (t .terms) (t .n) (marksOf s) (s .links)) ↔ ((l : ℕ) → sets (leftIn t s) l ≡ true → link s l ≡ 0))
+fits-says t e s =
+    let tree = well-formed t (meets t e) .tree in
+    (waits-said (t .terms) (t .n) tree (marksOf s), clear-said (t .terms) (t .n) (tree .kids) (tree .once) (marksOf s) (tree .some-row) (s .links))
+
+-- "The list of steps is in rising row order."
+pub listed-rises : (t : Table) (s : State) → Accepted t s → Rising (listedRows t s)
+unfolding listedOf
+listed-rises t s a = subst Rising (sym (rows-are t s a)) (listed-rising (hasStep t s) 0 (t .n))
+
+-- "a step list needs one byte for each listed step and no more"
+pub listed-in-any : (t : Table) (s : State) → Accepted t s → (lent : List ℕ) → length (listedRows t s) ≤ length lent → listedIn t s lent ≡ listedRows t s
+listed-in-any t s a lent room = rw (rows-are t s a) (listed-is t s a lent (rw (rows-are t s a) at room))
+
+-- `take_step` takes what `list_steps` lists, and answers what `step_kind` answers
+pub taken-listed : (t : Table) (s : State) → Sized s → (row : ℕ) → (stepAnswer t s row .ok ≡ true) ↔ List·Memᴰ row (listedRows t s)
+taken-listed t s size row = (
+  λ ok. let a = taken-accepted t s size row ok in row-listed t s a row .1 (sym (ok-is t s a row) ∙ ok),
+  λ m. let a = listed-accepted t s size _ row m in ok-is t s a row ∙ row-listed t s a row .0 m,
+)
+
+pub taken-kind : (t : Table) (s : State) (row : ℕ) → stepAnswer t s row .answer ≡ kindAnswer t s row
+unfolding stepAnswer kindAnswer takenAnswer
+taken-kind t s row = checked-map (λ (k : Stepped). k .answer) (notTaken s) (takenAnswer t s row) (callChecks t s)
+
+-- a listed step, and the state after it
+module _ (t : Table) (s : State) (size : Sized s) (row : ℕ) (listed : List·Memᴰ row (listedRows t s)) where
+  abbrev after : State
+  after = next t s row
+
+  accepted : Accepted t s
+  accepted = listed-accepted t s size _ row listed
+
+  has : hasStep t s row ≡ true
+  has = row-listed t s accepted row .0 listed
+
+  is : after ≡ steppedOf t s row
+  is = state-is t s accepted row
+
+  -- "A listed step is one the rules allow": its row and its kind are those of a label of R, and R's rule leads to what is left after it, and to its links
+  pub listed-allowed : (α : Label) × (row-of α ≡ row) × (kindIn α ≡ kindAnswer t s row) × Allowed t s α (leftIn t after) (linksOf after)
+  listed-allowed = rw (is, kind-is t s accepted row) (steps-allowed t (formed accepted) (one-source-in accepted) s size row has)
+
+  -- "ACT in front: passed." "OUT in front: passed". "JOIN in front with a true condition: passed". With a false condition "dropped".
+  pub row-done : ((kindAnswer t s row ≡ Clean) × (marksOf after row ≡ 4)) ⊎ ((kindAnswer t s row ≡ Clean → ⊥) × (marksOf after row ≡ 1))
+  row-done = rw is (⊎-elim (λ (e, k). inr (k, row-marked t (formed accepted) s size row takes e)) (λ (e, k). inl (k, row-marked t (formed accepted) s size row drops e)) (turned t s accepted row listed))
+
+  -- "Each of these also decides every waiting PICK above it towards it": a waiting PICK k, with the row below its child c
+  pub picks-decided : (kindAnswer t s row ≡ Clean → ⊥) → (k c : ℕ) (side : Bool) → k < t .n → isWaitingPick (rowAt (t .terms) k) (marksOf s k) ≡ true → Child (rowAt (t .terms) k) side c → rows (term (rowAt (t .terms)) (t .n) c) row ≡ true → marksOf after k ≡ sideMark side
+  picks-decided never k c side h waits child below = rw is (⊎-elim (λ (e, _). pick-decided t (formed accepted) s size k c side h waits child row below e) (λ (_, k). absurd (never k)) (turned t s accepted row listed))
+
+  -- "Nothing else changes": a mark that changes is the row's or that of a PICK above it, which a clean step does not decide; a link that changes was unset
+  pub nothing-else : (after .mode ≡ s .mode) × ((k : ℕ) → (marksOf after k ≡ marksOf s k) ⊎ ((k ≡ row) ⊎ ((kindAnswer t s row ≡ Clean → ⊥) × (side : Bool) × PickAbove t s row k side × (marksOf after k ≡ sideMark side)))) × Grows (linksOf s) (linksOf after)
+  nothing-else = rw (is, kind-is t s accepted row) (nothing-else-steps t (formed accepted) (one-source-in accepted) size (accepted .fits) row has)
+
+-- "and each allowed step is listed": at its row, with its kind, and taking it leads where R's rule leads
+pub allowed-listed : (t : Table) (s : State) → Accepted t s → (α : Label) (P : Process) (v : Links) → Allowed t s α P v → List·Memᴰ (row-of α) (listedRows t s) × (kindAnswer t s (row-of α) ≡ kindIn α) × (leftIn t (next t s (row-of α)) ≡ P) × (linksOf (next t s (row-of α)) ≡ v)
+allowed-listed t s a α P v rule =
+    let l = allowed-steps t (formed a) s (a .sized) α P v rule in
+    let z = state-is t s a (row-of α) in
+    (row-listed t s a (row-of α) .1 (l .there), kind-is t s a (row-of α) ∙ l .kind, ap (leftIn t) z ∙ l .leaves, ap linksOf z ∙ l .sets)
+
+-- "From any fitting state a run has at most as many steps as there are waiting ACT, OUT and JOIN rows."
+pub run-bound : (t : Table) (s : State) → Sized s → (G : Run t s) → length (taken G) ≤ waitingSteps (rowAt (t .terms)) (marksOf s) (t .n)
+run-bound t s size G = run-short size G
