@@ -1,11 +1,8 @@
 -- What is refused before the first line is printed: the input, the sheet, the mode. Assumes nothing.
 use mathlib.Core.Path.{_≡_, refl, sym, ap, subst, _∙_}
-use mathlib.Core.Bool.{Bool, true, false, _&&_}
 use mathlib.Core.List.{List, [], _∷_, _++_}
-use mathlib.Core.Logic.{by-cases}
 use Prim.Native.Nat.{ℕ, _+_, _*_, _-_, _≤_, _<_}
 use native.Mathlib.Omega.{arith}
-use native.Mathlib.Decide.{ℕ-discrete}
 use lib.Dec.{leb}
 use lib.ListN.{length, length-drop, take, drop, getD}
 use lib.Seq.{take-all}
@@ -16,7 +13,7 @@ use Rattle.laws.proofs.Checks.{checked-append, checked-map, checked-holds, hold
 use Rattle.sheet.specs.declared.Head.{Head}
 use Rattle.sheet.specs.declared.Refusal.{Refusal}
 use Rattle.sheet.specs.Table.{Table, tableOf}
-use Rattle.sheet.specs.Rules.{refuse, refusalOf}
+use Rattle.sheet.specs.Rules.{refuse}
 use Rattle.sheet.specs.Sheet.{numberAt, headOf, termsOf, conditionsOf, tableIn, sheetChecks}
 use Rattle.sheet.proofs.Refusals.{numbered, refused-by, accepted-by, one-place-fails, one-place-holds}
 use Rattle.codec.specs.declared.SheetAnswer.{SheetAnswer}
@@ -24,17 +21,16 @@ use Rattle.codec.specs.declared.SheetAnswer.the-variants as sheet
 use Rattle.codec.specs.Answers.{readOf, partOf}
 use Rattle.codec.proofs.Judged.{accepted-is}
 use Rattle.codec.proofs.Parts.{part-whole}
-use Rattle.state.specs.declared.State.{State}
 use Rattle.state.specs.State.{freshOf}
 use Rattle.moves.specs.Fits.{modeCheck}
-use Rattle.moves.proofs.Fits.{fresh-sized, fresh-fits}
 use Rattle.sheet_engine.specs.declared.VerdictAnswer.{VerdictAnswer}
 use Rattle.sheet_engine.specs.declared.Started.{Started}
 use Rattle.sheet_engine.specs.Answers.{startChecks, started, notStarted, startAnswer, verdictAnswer}
 use Rattle.sheet_engine.proofs.Promises.{start-answered, start-is-fresh}
+use Rattle.promises.specs.Calls.{Accepted}
+use Rattle.promises.proofs.Fresh.{fresh-state}
 use Rattle.lines.specs.Lines.{refusedLine, verdictLine}
 use Rattle.printing.specs.Printed.{modeIn, sizeIn, sheetIn, rowsIn, complete, stepLines, runLines, sheetLines, printed}
-use Rattle.printing.specs.Running.{Running}
 
 -- starting
 module _ (t : Table) (mode : ℕ) (a : Started) (told : a ≡ startAnswer t mode) where
@@ -52,10 +48,8 @@ module _ (t : Table) (mode : ℕ) (a : Started) (told : a ≡ startAnswer t mode
   fresh : a .number ≡ 0 → a .state ≡ freshOf mode
   fresh e = ap (λ (r : Started). r .state) told ∙ start-is-fresh t mode (number-is e)
 
-  pub run-begins : a .number ≡ 0 → Running t (a .state)
-  run-begins e =
-      let (b, m) = start-answered t mode .0 (number-is e) in
-      rw (fresh e) (record { table = b; mode = m; sized = fresh-sized mode; fits = fresh-fits t mode })
+  pub run-begins : a .number ≡ 0 → Accepted t (a .state)
+  run-begins e = let (b, m) = start-answered t mode .0 (number-is e) in subst (Accepted t) (sym (fresh e)) (fresh-state t b mode m)
 
   pub run-goes : (rows : List ℕ) (v : VerdictAnswer) → v ≡ verdictAnswer t → a .number ≡ 0 → verdictLine v ++ stepLines t (a .state) rows ≡ checked refusedLine (runLines t mode rows) (startChecks t mode)
   unfolding numbered runLines

@@ -1,8 +1,8 @@
 -- Every output fits the buffer: a line has at most 76 bytes but for the last, and a run at most 256 steps. Assumes nothing.
-use mathlib.Core.Path.{_≡_, refl, sym, ap, _∙_}
+use mathlib.Core.Path.{_≡_, refl, sym, ap}
 use mathlib.Core.Bool.{Bool, true, false, cond}
 use mathlib.Core.List.{List, [], _∷_, _++_}
-use Prim.Native.Nat.{ℕ, zero, suc, _+_, _*_, _≤_, _<_}
+use Prim.Native.Nat.{ℕ, zero, suc, _+_, _*_, _≤_}
 use native.Mathlib.Omega.{arith}
 use lib.Dec.{eqb, ltb}
 use lib.ListN.{length, length-append, length-take, take}
@@ -10,7 +10,7 @@ use lib.Seq.{length-take-le}
 use borrow.Author.Tests.{leb-true, ltb-false}
 use Rattle.laws.specs.Listed.{written}
 use Rattle.laws.specs.Sums.{sum, count}
-use Rattle.laws.specs.Checks.{Check, Holds, placeOf, checked, AllHold}
+use Rattle.laws.specs.Checks.{Check, placeOf, checked, AllHold}
 use Rattle.laws.proofs.Tests.{cond-cases}
 use Rattle.laws.proofs.Checks.{all-hold, place-holds}
 use Rattle.steps.specs.InFront.{waitingStep, waitingSteps}
@@ -26,18 +26,18 @@ use Rattle.moves.specs.Steps.{marksOf, nodes, kindAt, hasStep, steppedOf, liste
 use Rattle.moves.specs.Fits.{modeCheck}
 use Rattle.moves.specs.Runs.{Run, over, taken}
 use Rattle.moves.specs.Runs as runs
-use Rattle.moves.proofs.Fits.{fresh-sized, fresh-fits}
 use Rattle.moves.proofs.Kept.{run-length}
 use Rattle.sheet_engine.specs.declared.VerdictAnswer.{VerdictAnswer}
 use Rattle.sheet_engine.specs.declared.VerdictAnswer.the-variants as verdict
 use Rattle.sheet_engine.specs.Answers.{verdictAnswer}
+use Rattle.promises.specs.Calls.{Accepted}
+use Rattle.promises.proofs.Calls.{formed, few-listed, stepped}
+use Rattle.promises.proofs.Fresh.{fresh-state}
 use Rattle.lines.specs.Page.{page, added}
 use Rattle.lines.specs.Lines.{field, fields, feed, refusedWord, refusedLine, failWords, verdictLine, stepWord, actWord, setWord, openWord, cleanWord, namedLine, stepLine, letters, linksWord, linksLine, enabledWord, lastLine}
 use Rattle.lines.proofs.Decimal.{decimal-short}
 use Rattle.lines.proofs.Pages.{kept-length, added-all}
 use Rattle.printing.specs.Printed.{modeIn, sheetIn, rowsIn, complete, endLines, stepLines, runLines, sheetLines, printed}
-use Rattle.printing.specs.Running.{Running}
-use Rattle.printing.proofs.Runs.{formed, few, running-step}
 
 -- at most so many bytes
 record Short (xs : List ℕ) (n : ℕ) : Type 0 where
@@ -101,15 +101,15 @@ unfolding lastLine
 last-short [] h = record { is = omega arith }
 last-short (x ∷ xs) h = joined {xs = enabledWord} {ys = fields (x ∷ xs) ++ feed} 7 5377 (record { is = omega arith }) (joined 5376 1 (within (21 * length (x ∷ xs)) 5376 (omega (arith, h)) (fields-short (x ∷ xs))) feed-short)
 
-end-short : (t : Table) (s : State) → Running t s → Short (endLines t s) 5455
+end-short : (t : Table) (s : State) → Accepted t s → Short (endLines t s) 5455
 unfolding endLines
-end-short t s g = joined 71 5384 (links-short (t .m) (s .links) (formed t s g .few-links)) (last-short (listedOf t s) (few t s g))
+end-short t s g = joined 71 5384 (links-short (t .m) (s .links) (formed g .few-links)) (last-short (listedOf t s) (few-listed t s g))
 
 -- the lines of the steps that a run takes
-steps-short : (t : Table) (s : State) (rows : List ℕ) → Running t s → (R : Run t s) × Short (stepLines t s rows) (74 * length (taken R) + 5455)
+steps-short : (t : Table) (s : State) (rows : List ℕ) → Accepted t s → (R : Run t s) × Short (stepLines t s rows) (74 * length (taken R) + 5455)
 unfolding stepLines taken
 steps-short t s [] g = (over, end-short t s g)
-steps-short t s (r ∷ rows) g = at (hasStep t s r) refl (λ e. steps-short t (steppedOf t s r) rows (running-step t s g r e))
+steps-short t s (r ∷ rows) g = at (hasStep t s r) refl (λ e. steps-short t (steppedOf t s r) rows (stepped t s g r e))
   where
     at : (b : Bool) → hasStep t s r ≡ b → (hasStep t s r ≡ true → (R : Run t (steppedOf t s r)) × Short (stepLines t (steppedOf t s r) rows) (74 * length (taken R) + 5455)) → (R : Run t s) × Short (stepLine r (kindAt t s r) ++ cond b (stepLines t (steppedOf t s r) rows) []) (74 * length (taken R) + 5455)
     at true e more = let (R, h) = more e in (runs.take r e R, within _ _ (omega arith) (joined 74 (74 * length (taken R) + 5455) (step-short r (kindAt t s r)) h))
@@ -127,11 +127,11 @@ count-few p (suc n) = at (p n) (count-few p n)
 run-short : (t : Table) (mode : ℕ) (rows : List ℕ) → refusalOf t .number ≡ 0 → mode ≤ 1 → Short (runLines t mode rows) 24475
 unfolding runLines waitingSteps
 run-short t mode rows e m =
-    let g : Running t (freshOf mode) = record { table = e; mode = m; sized = fresh-sized mode; fits = fresh-fits t mode } in
+    let g = fresh-state t e mode m in
     let (R, h) = steps-short t (freshOf mode) rows g in
-    let l = run-length t (formed t (freshOf mode) g) (fresh-sized mode) R in
+    let l = run-length t (formed g) (g .sized) R in
     let c = count-few (λ r. waitingStep (nodes t r) (marksOf (freshOf mode) r)) (t .n) in
-    joined 76 24399 (verdict-short (verdictAnswer t)) (within (74 * length (taken R) + 5455) 24399 (omega (arith, l, c, formed t (freshOf mode) g .few-terms)) h)
+    joined 76 24399 (verdict-short (verdictAnswer t)) (within (74 * length (taken R) + 5455) 24399 (omega (arith, l, c, formed g .few-terms)) h)
 
 -- a property of the refusals, and of what is answered where no check fails
 checked-all : {A : Type 0} (P : A → Type 0) (answer : ℕ → ℕ → A) (good : A) (cs : List Check) → ((n p : ℕ) → P (answer n p)) → (AllHold cs → P good) → P (checked answer good cs)

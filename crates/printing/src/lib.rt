@@ -9,7 +9,7 @@ ghost use Rattle.lines.specs.Page.{page, added};
 ghost use Rattle.lines.specs.Lines.{refusedLine};
 ghost use Rattle.sheet_engine.specs.Answers.{startChecks, stepAnswer};
 ghost use Rattle.printing.specs.Printed.{endLines, stepLines, runLines, sheetLines, printed};
-ghost use Rattle.printing.specs.Running.{Running};
+ghost use Rattle.promises.specs.Calls.{Accepted};
 use codec::SheetAnswer;
 use codec::SizeAnswer;
 use engine::Stepped;
@@ -18,7 +18,7 @@ use state::State;
 
 // The links, and the rows that have a step.
 fn end_lines(out: &mut [u8], at: usize, s: State, h: Head, ts: &[u8], cs: &[u8]) -> usize
-    requires { ⌜ Running (tableOf h (now ts) (now cs)) s ⌝ }
+    requires { ⌜ Accepted (tableOf h (now ts) (now cs)) s ⌝ }
     ensures { λ r. ⌜ page (now (out .exit)) r ≡ added (page (now (out .entry)) at) (endLines (tableOf h (now (ts .entry)) (now (cs .entry))) s) ⌝ }
 {
     let links = s.links;
@@ -46,7 +46,7 @@ fn step_lines(
     cs: &[u8],
     rows: &[u8],
 ) -> usize
-    requires { ⌜ Running (tableOf h (now ts) (now cs)) s ⌝ }
+    requires { ⌜ Accepted (tableOf h (now ts) (now cs)) s ⌝ }
     ensures { λ r. ⌜ page (now (out .exit)) r ≡ added (page (now (out .entry)) at) (stepLines (tableOf h (now (ts .entry)) (now (cs .entry))) s (now (rows .entry))) ⌝ }
 {
     let mut state = s;

@@ -19,6 +19,7 @@ use Rattle.sheet.specs.Rules.{refuse, refusalOf}
 use Rattle.sheet.specs.Accepted.{WellFormed, SingleSource}
 use Rattle.sheet.proofs.Accepted.{meets, well-formed, single-source}
 use Rattle.codec.specs.declared.SizeAnswer.{SizeAnswer}
+use Rattle.codec.specs.declared.SizeAnswer.the-variants.{Size}
 use Rattle.state.specs.declared.State.{State}
 use Rattle.state.specs.declared.StepKind.the-variants.{Clean}
 use Rattle.moves.specs.Steps.{marksOf, Sized, nodes, turnAt, kindTurned, kindAt, hasStep, listedOf, steppedOf}
@@ -33,7 +34,7 @@ use Rattle.fitting.proofs.Fitted.{fits-accepted, accepts-fitting}
 use Rattle.engine.specs.declared.Stepped.{Stepped}
 use Rattle.engine.specs.ByValue.{takenAnswer}
 use Rattle.engine.proofs.Known.{kind-step, written-fits}
-use Rattle.sheet_engine.specs.Answers.{callChecks, listBuffer, kindAnswer, stepAnswer}
+use Rattle.sheet_engine.specs.Answers.{listAnswer, callChecks, listBuffer, kindAnswer, stepAnswer}
 use Rattle.sheet_engine.proofs.Steps.{table-first, state-then, kind-given, step-refused, step-given, list-refused, list-given}
 use Rattle.promises.specs.Calls.{Accepted, countOf, listedIn, listedRows, Run, over, more, taken, last}
 
@@ -73,16 +74,22 @@ module _ (t : Table) (s : State) where
     pub step-is : (r : ℕ) → stepAnswer t s r ≡ takenAnswer t s r
     step-is r = sym (step-given t s refusal refl r (takenAnswer t s r) (unrefused a) refl)
 
+    pub list-answers : (lent : List ℕ) → length (listedOf t s) ≤ length lent → (listAnswer t s (length lent) ≡ Size (length (listedOf t s))) × (listBuffer t s lent ≡ listedOf t s ++ drop (length (listedOf t s)) lent)
+    list-answers lent h =
+        let (c, b) = list-given t s refusal refl lent (listedOf t s ++ drop (length (listedOf t s)) lent) (length (listedOf t s)) (unrefused a) refl (written-fits (listedOf t s) lent _ h refl) h in
+        (sym c, sym b)
+
     -- "a step list needs one byte for each listed step and no more"
     pub listed-is : (lent : List ℕ) → length (listedOf t s) ≤ length lent → listedIn t s lent ≡ listedOf t s
     unfolding listedIn
-    listed-is lent h =
-        let (c, b) = list-given t s refusal refl lent (listedOf t s ++ drop (length (listedOf t s)) lent) (length (listedOf t s)) (unrefused a) refl (written-fits (listedOf t s) lent _ h refl) h in
-        ap₂ (λ (n : SizeAnswer) (out : List ℕ). take (countOf n) out) (sym c) (sym b) ∙ take-at (listedOf t s) _ _ refl
+    listed-is lent h = let (c, b) = list-answers lent h in ap₂ (λ (n : SizeAnswer) (out : List ℕ). take (countOf n) out) c b ∙ take-at (listedOf t s) _ _ refl
+
+    pub few-listed : length (listedOf t s) ≤ 256
+    unfolding listedOf
+    few-listed = omega (arith, listed-length (hasStep t s) 0 (t .n), formed a .few-terms)
 
     pub rows-are : listedRows t s ≡ listedOf t s
-    unfolding listedOf
-    rows-are = listed-is (replicate 256 0) (omega (arith, listed-length (hasStep t s) 0 (t .n), formed a .few-terms, length-replicate {A = ℕ} 256 0))
+    rows-are = listed-is (replicate 256 0) (omega (arith, few-listed, length-replicate {A = ℕ} 256 0))
 
     pub row-listed : (r : ℕ) → List·Memᴰ r (listedRows t s) ↔ (hasStep t s r ≡ true)
     row-listed r = subst (λ (l : List ℕ). List·Memᴰ r l ↔ (hasStep t s r ≡ true)) (sym rows-are) (listed-rows t s r)
@@ -108,7 +115,7 @@ module _ (t : Table) (s : State) where
         at drops q = inr (q, kind-is r ∙ drops-kind t s r q)
 
     -- the state after a step is one of the table
-    stepped : (r : ℕ) → hasStep t s r ≡ true → Accepted t (steppedOf t s r)
+    pub stepped : (r : ℕ) → hasStep t s r ≡ true → Accepted t (steppedOf t s r)
     stepped r h =
         let (size, mode) = step-kept t (formed a) s (a .sized) r h in
         record { table = a .table; mode = subst (λ (m : ℕ). m ≤ 1) (sym mode) (a .mode); fits = fits-step t (formed a) (one-source a) s (a .sized) r h (a .fits); sized = size }

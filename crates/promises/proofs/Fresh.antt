@@ -26,7 +26,7 @@ module _ (t : Table) (accepted : refusalOf t .number ≡ 0) (mode : ℕ) (h : mo
   is-fresh : freshIn t mode ≡ freshOf mode
   is-fresh = ap (λ (r : Started). r .state) is-started
 
-  fresh-state : Accepted t (freshOf mode)
+  pub fresh-state : Accepted t (freshOf mode)
   fresh-state = record { table = accepted; mode = h; fits = fresh-fits t mode; sized = fresh-sized mode }
 
   pub fresh-accepted : Accepted t (freshIn t mode)

@@ -1,10 +1,8 @@
 use native.Mathlib.Omega.{arith}
 use borrow.Author.Needs.{needs}
 use mathlib.Core.Path.{sym, ap, _∙_}
-use mathlib.Core.List.{[], _∷_, _++_}
-use Prim.Native.Nat.{_/_, _%_}
-use Rattle.lines.specs.Page.{page, added}
-use Rattle.lines.specs.Lines.{decimal, glyph}
+use mathlib.Core.List.{[]}
+use Rattle.lines.specs.Page.{added}
 use Rattle.lines.proofs.Pages.{byte, then}
 use Rattle.lines.proofs.Decimal.{decimal-one, decimal-more}
 use native.Mathlib.Omega.{arith}

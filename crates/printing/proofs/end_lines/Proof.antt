@@ -6,7 +6,8 @@ use Rattle.lines.specs.Page.{added}
 use Rattle.lines.specs.Lines.{lastLine}
 use Rattle.lines.proofs.Pages.{then}
 use Rattle.printing.specs.Printed.{endLines}
-use Rattle.printing.proofs.Runs.{formed, list-lies, list-part, list-unrefused}
+use Rattle.promises.proofs.Calls.{formed}
+use Rattle.printing.proofs.Runs.{list-lies, list-part, list-unrefused}
 use borrow.Author.Needs.{needs}
 use Rattle.printing.proofs.end_lines.Statement.{statement}
 use Rattle.printing.proofs.end_lines.Tie as tie
@@ -23,7 +24,7 @@ slice-aggregate-links-line c = search needs
 
 -- src/lib.rt:22:9
 links-line-requires : tie.Need-links-line-requires
-links-line-requires c κs = let g = c .before .before .before .before .before .before .pre in omega (arith, formed _ _ g .few-links, g .sized .all-links)
+links-line-requires c κs = let g = c .before .before .before .before .before .before .pre in omega (arith, formed g .few-links, g .sized .all-links)
 
 -- src/lib.rt:24:50
 slice-aggregate-list-steps : tie.Need-slice-aggregate-list-steps
@@ -39,11 +40,11 @@ enum-known-count c = search needs
 
 -- src/lib.rt:25:63
 array-share-prefix-rows : tie.Need-array-share-prefix-rows
-array-share-prefix-rows c = list-lies _ _ (c .before .before .before .before .before .before .before .before .before .before .before .before .before .before .before .before .pre) _ _ _ refl (sym (c .before .before .count .given .1) ∙ c .before .before .before .before .before .list-steps .ensures .0) (c .before .before .before .before .before .list-steps .ensures .1)
+array-share-prefix-rows c = list-lies _ _ (c .before .before .before .before .before .before .before .before .before .before .before .before .before .before .before .before .pre) (replicate 256 0) refl _ _ (sym (c .before .before .count .given .1) ∙ c .before .before .before .before .before .list-steps .ensures .0) (c .before .before .before .before .before .list-steps .ensures .1)
 
 -- src/lib.rt:25:63
 slice-aggregate-last-line : tie.Need-slice-aggregate-last-line
-slice-aggregate-last-line c = sym (length-take-le _ _ (list-lies _ _ (c .before .before .before .before .before .before .before .before .before .before .before .before .before .before .before .before .before .pre) _ _ _ refl (sym (c .before .before .before .count .given .1) ∙ c .before .before .before .before .before .before .list-steps .ensures .0) (c .before .before .before .before .before .before .list-steps .ensures .1)))
+slice-aggregate-last-line c = sym (length-take-le _ _ (list-lies _ _ (c .before .before .before .before .before .before .before .before .before .before .before .before .before .before .before .before .before .pre) (replicate 256 0) refl _ _ (sym (c .before .before .before .count .given .1) ∙ c .before .before .before .before .before .before .list-steps .ensures .0) (c .before .before .before .before .before .before .list-steps .ensures .1)))
 
 -- src/lib.rt:25:36
 last-line-requires : tie.Need-last-line-requires
@@ -64,7 +65,7 @@ same-length c = search needs
 -- src/lib.rt:17:1
 returns : tie.Need-returns
 unfolding endLines
-returns c = then _ _ _ _ _ (c .before .before .before .before .before .before .before .before .before .before .before .before .before .links-line .ensures) (c .before .before .last-line .ensures ∙ ap (added _) (ap lastLine (list-part _ _ (c .before .before .before .before .before .before .before .before .before .before .before .before .before .before .before .before .before .before .before .before .pre) _ _ _ refl (sym (c .before .before .before .before .before .before .count .given .1) ∙ c .before .before .before .before .before .before .before .before .before .list-steps .ensures .0) (c .before .before .before .before .before .before .before .before .before .list-steps .ensures .1))))
+returns c = then _ _ _ _ _ (c .before .before .before .before .before .before .before .before .before .before .before .before .before .links-line .ensures) (c .before .before .last-line .ensures ∙ ap (added _) (ap lastLine (list-part _ _ (c .before .before .before .before .before .before .before .before .before .before .before .before .before .before .before .before .before .before .before .before .pre) (replicate 256 0) refl _ _ (sym (c .before .before .before .before .before .before .count .given .1) ∙ c .before .before .before .before .before .before .before .before .before .list-steps .ensures .0) (c .before .before .before .before .before .before .before .before .before .list-steps .ensures .1))))
 
 -- src/lib.rt:17:1
 same-length-2 : tie.Need-same-length-2
@@ -72,7 +73,7 @@ same-length-2 c = search needs
 
 -- src/lib.rt:17:1
 returns-2 : tie.Need-returns-2
-returns-2 c = absurd (list-unrefused _ _ (c .before .before .before .before .before .before .before .before .before .before .before .before .before .before .before .before .before .before .before .pre) (replicate 256 0) _ _ refl (sym (c .before .before .before .before .before .number .given .1) ∙ c .before .before .before .before .before .before .before .before .list-steps .ensures .0))
+returns-2 c = absurd (list-unrefused _ _ (c .before .before .before .before .before .before .before .before .before .before .before .before .before .before .before .before .before .before .before .pre) (replicate 256 0) refl _ _ (sym (c .before .before .before .before .before .number .given .1) ∙ c .before .before .before .before .before .before .before .before .list-steps .ensures .0))
 
 pub end-lines-spec : {M : Type 1} → statement M
 end-lines-spec =

@@ -1,5 +1,4 @@
 use mathlib.Core.Path.{ap, _∙_}
-use native.Mathlib.Omega.{arith}
 use Rattle.lines.specs.Page.{added}
 use Rattle.printing.proofs.Judging.{leading-cut, sheet-cut, input-goes}
 use borrow.Author.Needs.{needs}

@@ -1,4 +1,4 @@
-use mathlib.Core.Path.{sym, refl, ap, _∙_}
+use mathlib.Core.Path.{refl, ap, _∙_}
 use Rattle.lines.specs.Page.{added}
 use Rattle.printing.proofs.Judging.{sheet-goes, sheet-refused}
 use borrow.Author.Needs.{needs}

@@ -2,14 +2,14 @@ use mathlib.Core.List.{[]}
 use Rattle.lines.proofs.Pages.{kept-length}
 use mathlib.Core.Path.{refl, sym, ap, _∙_}
 use Prim.Native.Nat.{_-_}
-use lib.ListN.{length, drop, drop-of-length-le, getD}
+use lib.ListN.{length, drop}
 use borrow.Author.Tests.{not-true, not-false}
 use Rattle.sheet.specs.Table.{tableOf}
 use Rattle.lines.specs.Page.{added}
 use Rattle.lines.proofs.Pages.{Adding, adding-none, adding-more, adding-all}
 use Rattle.printing.specs.Printed.{stepLines}
-use Rattle.printing.specs.Running.{Running}
-use Rattle.printing.proofs.Runs.{lines-stop, lines-more, next-running, lines-end}
+use Rattle.promises.specs.Calls.{Accepted}
+use Rattle.printing.proofs.Runs.{lines-stop, lines-more, next-accepted, lines-end}
 use native.Mathlib.Omega.{arith}
 use borrow.Author.Needs.{needs}
 use Rattle.printing.proofs.step_lines.Statement.{statement}
@@ -21,7 +21,7 @@ use Rattle.printing.proofs.end_lines.Reads as end-lines-reads
 use Rattle.printing.proofs.step.Reads as step-reads
 
 abbrev Inv-loop : tie.InvT-loop
-Inv-loop out₀ at h ts cs rows state₀ end₀ i₀ out state end i = Adding out₀ at (stepLines (tableOf h ts cs) state₀ rows) out end (stepLines (tableOf h ts cs) state (drop i rows)) × Running (tableOf h ts cs) state
+Inv-loop out₀ at h ts cs rows state₀ end₀ i₀ out state end i = Adding out₀ at (stepLines (tableOf h ts cs) state₀ rows) out end (stepLines (tableOf h ts cs) state (drop i rows)) × Accepted (tableOf h ts cs) state
 
 abbrev μ-loop : tie.MeasureT-loop
 μ-loop out₀ at h ts cs rows state₀ end₀ i₀ out state end i = length rows - i
@@ -64,7 +64,7 @@ loop-less c = omega (arith, c .before .before .before .before .before .before .b
 
 -- src/lib.rt:44:5
 loop-again : tie.Need-loop-again Inv-loop μ-loop
-loop-again c = (adding-more _ _ _ _ _ _ _ _ _ _ (c .before .before .before .before .before .before .before .before .before .before .before .loop .inv .0) (lines-more _ _ (c .before .before .before .before .before .before .before .before .before .before .before .loop .inv .1) _ _ (c .before .before .before .before .before .before .before .before .before .before .loop-test .taken) _ (c .before .before .before .before .before .before .before .before .step .ensures) (not-false _ (c .before .if1 .left))) (c .before .before .before .before .before .step-line .ensures), next-running _ _ (c .before .before .before .before .before .before .before .before .before .before .before .loop .inv .1) (c .before .before .before .before .before .before .before .before .before .before .before .before .before .before .before .before .args .rows .now) _ (c .before .before .before .before .before .before .before .before .before .before .loop-test .taken) _ (c .before .before .before .before .before .before .before .before .step .ensures) (not-false _ (c .before .if1 .left)))
+loop-again c = (adding-more _ _ _ _ _ _ _ _ _ _ (c .before .before .before .before .before .before .before .before .before .before .before .loop .inv .0) (lines-more _ _ (c .before .before .before .before .before .before .before .before .before .before .before .loop .inv .1) _ _ (c .before .before .before .before .before .before .before .before .before .before .loop-test .taken) _ (c .before .before .before .before .before .before .before .before .step .ensures) (not-false _ (c .before .if1 .left))) (c .before .before .before .before .before .step-line .ensures), next-accepted _ _ (c .before .before .before .before .before .before .before .before .before .before .before .loop .inv .1) (c .before .before .before .before .before .before .before .before .before .before .before .before .before .before .before .before .args .rows .now) _ (c .before .before .before .before .before .before .before .before .before .before .loop-test .taken) _ (c .before .before .before .before .before .before .before .before .step .ensures) (not-false _ (c .before .if1 .left)))
 
 -- src/lib.rt:54:5
 end-lines-requires : tie.Need-end-lines-requires Inv-loop μ-loop
