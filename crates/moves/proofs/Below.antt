@@ -16,16 +16,9 @@ use Rattle.steps.specs.InFront.{waiting, waitingStep}
 use Rattle.steps.proofs.Tree.{child-above, root-in, child-in, rows-above, parent-in, rows-trans}
 use Rattle.steps.proofs.Parents.{inherited-child}
 use Rattle.sheet.specs.Table.{rowAt}
+use Rattle.moves.specs.Above.{Below}
 use Rattle.moves.specs.Fits.{held, waitOk, waitsFit}
 use Rattle.moves.proofs.Held.{held-root}
-
--- row k stands below row i: in the process of one of its children
-pub record Below (ts : List ℕ) (n i k : ℕ) : Type 0 where
-  pub in-sheet : i < n
-  pub side : Bool
-  pub child : ℕ
-  pub at-side : Child (rowAt ts i) side child
-  pub holds : rows (term (rowAt ts) n child) k ≡ true
 
 module _ (ts : List ℕ) (n : ℕ) (tree : Tree (rowAt ts) n) (μ : Marks) where
   abbrev T : ℕ → ℕ → Bool

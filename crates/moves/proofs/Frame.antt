@@ -20,18 +20,10 @@ use Rattle.sheet.specs.Accepted.{WellFormed}
 use Rattle.state.specs.declared.State.{State}
 use Rattle.state.specs.State.{passOf, dropOf, sideMark}
 use Rattle.moves.specs.Steps.{marksOf, nodes, remainderIn, turnAt, falsified, isWaitingPick, decidedOf, ownLink, ownOf, takenOf, droppedOf, steppedBy, steppedOf}
+use Rattle.moves.specs.Above.{PickAbove}
 use Rattle.moves.proofs.Falsify.{set-cases, falsify-marks}
 use Rattle.moves.proofs.Climb.{decided-by, climb-induction}
 use Rattle.moves.proofs.Moves.{turn-parts}
-
--- row k is a waiting PICK that one reaches, and r stands below it on the side
-pub record PickAbove (t : Table) (s : State) (r k : ℕ) (side : Bool) : Type 0 where
-  pub in-sheet : k < t .n
-  pub undecided : isWaitingPick (nodes t k) (marksOf s k) ≡ true
-  pub comes-to : reached (nodes t) (marksOf s) k ≡ true
-  pub child : ℕ
-  pub at-side : Child (nodes t k) side child
-  pub holds : rows (term (nodes t) (t .n) child) r ≡ true
 
 -- why row k has the new mark x
 abbrev pub Change : Table → State → ℕ → Turn → ℕ → ℕ → Type 0

@@ -15,10 +15,11 @@ use Rattle.state.specs.declared.State.{State}
 use Rattle.state.specs.declared.StepKind.the-variants.{Clean}
 use Rattle.state.specs.State.{sideMark}
 use Rattle.moves.specs.Steps.{marksOf, linksOf, Sized, nodes, kindAt, hasStep, steppedOf}
+use Rattle.moves.specs.Above.{PickAbove}
 use Rattle.moves.specs.Fits.{Fits}
 use Rattle.moves.specs.Runs.{Run, over, take, taken, last}
 use Rattle.moves.proofs.Moves.{has-turn, takes-kind, step-kept}
-use Rattle.moves.proofs.Frame.{PickAbove, step-frames}
+use Rattle.moves.proofs.Frame.{step-frames}
 use Rattle.moves.proofs.Runs.{shown, to-moves, grows-run}
 use Rattle.moves.proofs.Fits.{fits-valid, fits-step}
 

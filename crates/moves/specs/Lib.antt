@@ -1,3 +1,4 @@
 pub mod Steps
+pub mod Above
 pub mod Fits
 pub mod Runs

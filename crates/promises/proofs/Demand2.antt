@@ -20,18 +20,20 @@ use Rattle.calculus.specs.Rows.{rows, row-of}
 use Rattle.conditions.specs.Operators.{Operator, table}
 use Rattle.conditions.specs.Conditions.{Condition, condition, reached, lazy, value}
 use Rattle.conditions.specs.Numbers.{digit}
-use Rattle.conditions.proofs.Operators.{meaning, table-means}
+use Rattle.conditions.specs.Meaning.{meaning}
+use Rattle.conditions.proofs.Operators.{table-means}
 use Rattle.conditions.proofs.Evaluation.{strict-unset, strict-lazy, value-1}
 use Rattle.steps.specs.Rows.{PREFIX, Child, term}
 use Rattle.steps.specs.InFront.{waiting, waitingStep, waitingSteps}
 use Rattle.steps.specs.Verdict.{SheetPasses}
 use Rattle.steps.proofs.Sources.{typable}
 use Rattle.sheet.specs.declared.Head.{Head}
-use Rattle.sheet.specs.Table.{Table, tableOf, rowAt, conditionRowAt, lazyOf, evaluationOf, evalIn, processOf}
+use Rattle.sheet.specs.Table.{Table, tableOf, cut, rowAt, conditionRowAt, lazyOf, evaluationOf, evalIn, processOf}
 use Rattle.sheet.specs.Rules.{terms, tree, oneSource, refuse, refusalOf}
 use Rattle.sheet.specs.Accepted.{WellFormed, SingleSource, Narrow}
 use Rattle.sheet.specs.Sheet.{sizeOf, headOf, termsOf, conditionsOf, sheetSize, contents, tableIn}
 use Rattle.sheet.proofs.Accepted.{meets, well-formed, single-source, narrow-joins, rows-tree, one-source}
+use Rattle.sheet.proofs.Beyond.{same-refusal}
 use Rattle.codec.specs.declared.SheetAnswer.the-variants as sheet
 use Rattle.codec.specs.declared.SizeAnswer.the-variants as size
 use Rattle.codec.specs.Answers.{readOf, partOf, writeOf, writtenOf}
@@ -43,10 +45,10 @@ use Rattle.state.specs.declared.StepKind.the-variants.{Clean}
 use Rattle.state.specs.State.{sideMark}
 use Rattle.moves.specs.Steps.{marksOf, linksOf, Sized, leftIn, kindIn, hasStep, listedOf, steppedOf, isWaitingPick}
 use Rattle.moves.specs.Fits.{waitsFit, clearFit}
-use Rattle.moves.proofs.Below.{Below, waits-said}
+use Rattle.moves.specs.Above.{Below, PickAbove}
+use Rattle.moves.proofs.Below.{waits-said}
 use Rattle.moves.proofs.Clear.{clear-said}
 use Rattle.moves.proofs.Allowed.{listed-allowed as steps-allowed, allowed-listed as allowed-steps}
-use Rattle.moves.proofs.Frame.{PickAbove}
 use Rattle.moves.proofs.Decided.{row-marked, pick-decided}
 use Rattle.moves.proofs.Kept.{nothing-else as nothing-else-steps}
 use Rattle.engine.specs.declared.Stepped.{Stepped}
@@ -71,6 +73,10 @@ sheet-accepted s h = (
 -- "A child's number is greater than its parent's. Every row but 0 is the child of exactly one row, once." "no two OUT rows name the same link." "At most 8 distinct links may be reached from a JOIN's condition."
 pub table-accepted : (t : Table) → refusalOf t .number ≡ 0 → WellFormed t × SingleSource t × Narrow t
 table-accepted t e = let g = meets t e in (well-formed t g, single-source t g, narrow-joins t g)
+
+-- "places beyond these are no part of it": tables that agree on n term rows and k condition rows are accepted or refused alike
+pub nothing-beyond : (t t′ : Table) → cut t ≡ cut t′ → refusalOf t ≡ refusalOf t′
+nothing-beyond = same-refusal
 
 -- "Reading an accepted sheet and writing it again gives its bytes"
 pub read-then-write : (s : List ℕ) (h : Head) → ((i : ℕ) → getD s i 0 < 256) → readOf s ≡ sheet.Sheet h → (out : List ℕ) → length s ≤ length out → (writeOf h (partOf s (termsOf s)) (partOf s (conditionsOf s)) (length out) ≡ size.Size (length s)) × (writtenOf h (partOf s (termsOf s)) (partOf s (conditionsOf s)) out ≡ s ++ drop (length s) out)

@@ -1,0 +1,28 @@
+-- Rows above and below each other, at any depth.
+use mathlib.Core.Path.{_≡_}
+use mathlib.Core.Bool.{Bool, true}
+use mathlib.Core.List.{List}
+use Prim.Native.Nat.{ℕ, _<_}
+use Rattle.calculus.specs.Rows.{rows}
+use Rattle.steps.specs.Rows.{term, Child}
+use Rattle.steps.specs.InFront.{reached}
+use Rattle.sheet.specs.Table.{Table, rowAt}
+use Rattle.state.specs.declared.State.{State}
+use Rattle.moves.specs.Steps.{marksOf, nodes, isWaitingPick}
+
+-- row k stands below row i: in the process of one of its children
+pub record Below (ts : List ℕ) (n i k : ℕ) : Type 0 where
+  pub in-sheet : i < n
+  pub side : Bool
+  pub child : ℕ
+  pub at-side : Child (rowAt ts i) side child
+  pub holds : rows (term (rowAt ts) n child) k ≡ true
+
+-- row k is a waiting PICK that one reaches, and r stands below it on the side
+pub record PickAbove (t : Table) (s : State) (r k : ℕ) (side : Bool) : Type 0 where
+  pub in-sheet : k < t .n
+  pub undecided : isWaitingPick (nodes t k) (marksOf s k) ≡ true
+  pub comes-to : reached (nodes t) (marksOf s) k ≡ true
+  pub child : ℕ
+  pub at-side : Child (nodes t k) side child
+  pub holds : rows (term (nodes t) (t .n) child) r ≡ true
