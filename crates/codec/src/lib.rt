@@ -1,11 +1,10 @@
 // Reading a sheet from any bytes, handing on its bodies, and writing a table.
 ghost use mathlib.Core.Path.{_≡_};
-ghost use Prim.Native.Nat.{ℕ, _+_, _*_, _<_, _≤_};
+ghost use Prim.Native.Nat.{_+_, _*_, _<_, _≤_};
 ghost use lib.ListN.{length};
 ghost use lib.Seq.{paste};
 ghost use Rattle.laws.specs.Checks.{placeOf};
 ghost use Rattle.sheet.specs.Rules.{refusalOf};
-ghost use Rattle.sheet.specs.Table.{tableOf};
 ghost use Rattle.sheet.specs.Sheet.{numberAt, entryOk, inFours, contents, contentsOk, headOf, settingsOf, termsOf, conditionsOf, tableIn, front};
 ghost use Rattle.codec.specs.Answers.{readOf, partOf, writeOf, writtenOf, Framed};
 use sheet::Head;

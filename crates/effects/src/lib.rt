@@ -1,6 +1,6 @@
 // What a step changes: the row's mark and link, the waiting PICKs above it, and in cleaning mode the links of what is cleaned away.
 ghost use mathlib.Core.Path.{_≡_};
-ghost use Prim.Native.Nat.{ℕ, _+_, _*_, _<_, _≤_};
+ghost use Prim.Native.Nat.{_+_, _*_, _<_, _≤_};
 ghost use lib.ListN.{length, getD};
 ghost use Rattle.calculus.specs.Places.{falsifies};
 ghost use Rattle.steps.specs.Rows.{firstOf, Tree};

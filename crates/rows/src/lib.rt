@@ -1,6 +1,6 @@
 // The children of a term row, by its bytes.
 ghost use mathlib.Core.Path.{_≡_};
-ghost use Prim.Native.Nat.{ℕ, _+_, _*_, _<_, _≤_};
+ghost use Prim.Native.Nat.{_+_, _*_, _≤_};
 ghost use lib.ListN.{length};
 ghost use Rattle.steps.specs.Rows.{firstOf, secondOf};
 ghost use Rattle.steps.specs.InFront.{names};
