@@ -20,6 +20,7 @@ fn put(out: &mut [u8], at: usize, x: u8) -> usize
     at
 }
 
+// The bytes, one after another.
 fn text(out: &mut [u8], at: usize, bytes: &[u8]) -> usize
     ensures { λ r. ⌜ page (now (out .exit)) r ≡ added (page (now (out .entry)) at) (now (bytes .entry)) ⌝ }
 {
@@ -32,7 +33,7 @@ fn text(out: &mut [u8], at: usize, bytes: &[u8]) -> usize
     end
 }
 
-// The digits of x.
+// The digits of x, from the highest on.
 fn digits(out: &mut [u8], at: usize, x: usize) -> usize
     ensures { λ r. ⌜ page (now (out .exit)) r ≡ added (page (now (out .entry)) at) (decimal x) ⌝ }
 {
@@ -51,6 +52,7 @@ fn number(out: &mut [u8], at: usize, x: usize) -> usize
     digits(out, end, x)
 }
 
+// A space and a byte as a number.
 fn small_number(out: &mut [u8], at: usize, x: u8) -> usize
     ensures { λ r. ⌜ page (now (out .exit)) r ≡ added (page (now (out .entry)) at) (field x) ⌝ }
 {
@@ -70,6 +72,7 @@ fn numbers(out: &mut [u8], at: usize, xs: &[u8]) -> usize
     end
 }
 
+// A refusal: its number and its place.
 pub fn refused_line(out: &mut [u8], at: usize, no: u8, place: usize) -> usize
     ensures { λ r. ⌜ page (now (out .exit)) r ≡ added (page (now (out .entry)) at) (refusedLine no place) ⌝ }
 {
@@ -79,6 +82,7 @@ pub fn refused_line(out: &mut [u8], at: usize, no: u8, place: usize) -> usize
     put(out, placed, 10)
 }
 
+// A failing verdict: row, number and link.
 fn fail_line(out: &mut [u8], at: usize, row: usize, no: usize, link: usize) -> usize
     ensures { λ r. ⌜ page (now (out .exit)) r ≡ added (page (now (out .entry)) at) (verdictLine (Fail row no link)) ⌝ }
 {
@@ -89,6 +93,7 @@ fn fail_line(out: &mut [u8], at: usize, row: usize, no: usize, link: usize) -> u
     put(out, linked, 10)
 }
 
+// The verdict, or the refusal of the table.
 pub fn verdict_line(out: &mut [u8], at: usize, verdict: VerdictAnswer) -> usize
     ensures { λ r. ⌜ page (now (out .exit)) r ≡ added (page (now (out .entry)) at) (verdictLine verdict) ⌝ }
 {
@@ -110,6 +115,7 @@ fn named_line(out: &mut [u8], at: usize, row: u8, word: &[u8], values: &[u8]) ->
     put(out, valued, 10)
 }
 
+// An activity that is done.
 fn act_line(out: &mut [u8], at: usize, row: u8, a: u8) -> usize
     ensures { λ r. ⌜ page (now (out .exit)) r ≡ added (page (now (out .entry)) at) (stepLine row (Act a)) ⌝ }
 {
@@ -117,6 +123,7 @@ fn act_line(out: &mut [u8], at: usize, row: u8, a: u8) -> usize
     named_line(out, at, row, b" act", &values)
 }
 
+// A link that is set, with the row's 0 or 1.
 fn set_line(out: &mut [u8], at: usize, row: u8, l: u8, v: u8) -> usize
     ensures { λ r. ⌜ page (now (out .exit)) r ≡ added (page (now (out .entry)) at) (stepLine row (Set l v)) ⌝ }
 {
@@ -137,6 +144,7 @@ pub fn step_line(out: &mut [u8], at: usize, row: u8, kind: StepKind) -> usize
     }
 }
 
+// The letter of a link's value: u, f or t.
 fn letter_of(x: u8) -> u8
     ensures { λ r. ⌜ r ≡ letter x ⌝ }
 {
@@ -149,6 +157,7 @@ fn letter_of(x: u8) -> u8
     116
 }
 
+// A letter for each value, not parted.
 fn put_letters(out: &mut [u8], at: usize, xs: &[u8]) -> usize
     ensures { λ r. ⌜ page (now (out .exit)) r ≡ added (page (now (out .entry)) at) (letters (now (xs .entry))) ⌝ }
 {
@@ -161,6 +170,7 @@ fn put_letters(out: &mut [u8], at: usize, xs: &[u8]) -> usize
     end
 }
 
+// The first m links; nothing behind the word where m is 0.
 pub fn links_line(out: &mut [u8], at: usize, m: usize, values: &[u8]) -> usize
     requires { ⌜ m ≤ length (now values) ⌝ }
     ensures { λ r. ⌜ page (now (out .exit)) r ≡ added (page (now (out .entry)) at) (linksLine m (now (values .entry))) ⌝ }
@@ -173,6 +183,7 @@ pub fn links_line(out: &mut [u8], at: usize, m: usize, values: &[u8]) -> usize
     put(out, lettered, 10)
 }
 
+// The rows that have a step, or that there is none.
 pub fn last_line(out: &mut [u8], at: usize, rows: &[u8]) -> usize
     ensures { λ r. ⌜ page (now (out .exit)) r ≡ added (page (now (out .entry)) at) (lastLine (now (rows .entry))) ⌝ }
 {

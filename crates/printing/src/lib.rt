@@ -30,6 +30,7 @@ fn end_lines(out: &mut [u8], at: usize, s: State, h: Head, ts: &[u8], cs: &[u8])
     }
 }
 
+// The step of a row that is a byte of the input.
 fn step(s: State, h: Head, ts: &[u8], cs: &[u8], row: u8) -> Stepped
     ensures { λ r. ⌜ r ≡ stepAnswer (tableOf h (now (ts .entry)) (now (cs .entry))) s row ⌝ }
 {
@@ -81,6 +82,7 @@ fn run_lines(out: &mut [u8], mode: u8, h: Head, ts: &[u8], cs: &[u8], rows: &[u8
     step_lines(out, end, state, h, ts, cs, rows)
 }
 
+// A sheet's refusal, or its run.
 fn sheet_lines(out: &mut [u8], mode: u8, sheet: &[u8], rows: &[u8]) -> usize
     ensures { λ r. ⌜ page (now (out .exit)) r ≡ added (page (now (out .entry)) 0) (sheetLines mode (now (sheet .entry)) (now (rows .entry))) ⌝ }
 {
