@@ -1,87 +1,258 @@
-// One call on one of three sheets, or all but the call, for counting instructions: two runs that differ in the last letter differ by one call. Standard input: r, j or w (read, judge, write); s, t or l (smallest, typical, largest); 1 to make the call, 0 not to.
+// One call, or all but the call, for counting instructions: two runs that differ in the second letter differ by one call.
+// Standard input: r, j, w, v, s, l, k or t (read, judge, write, verdict, start, list, kind, step); 1 to make the call, 0 not to; the mode; the row asked for; the number of steps taken first, and their rows; the sheet. The answer is printed as three numbers of four hex digits, so that each costs the same.
 use codec::SheetAnswer;
 use codec::SizeAnswer;
 use libc::STDIN_FILENO;
 use libc::STDOUT_FILENO;
-use samples::put_largest;
-use samples::put_typical;
 use sheet::Head;
+use sheet_engine::VerdictAnswer;
+use state::State;
+use state::StepKind;
 
-fn rows_of(answer: SheetAnswer) -> usize {
+struct Seen {
+    a: usize,
+    b: usize,
+    c: usize,
+}
+
+fn wide(x: u8) -> usize {
+    x as usize
+}
+
+// The links, rows and conditions of a sheet.
+fn sheet_seen(answer: SheetAnswer) -> Seen {
     match answer {
-        SheetAnswer::Sheet(h) => h.n,
-        SheetAnswer::Refused(number, place) => place,
+        SheetAnswer::Sheet(h) => Seen {
+            a: h.m,
+            b: h.n,
+            c: h.k,
+        },
+        SheetAnswer::Refused(number, place) => Seen {
+            a: number as usize,
+            b: place,
+            c: 0,
+        },
     }
 }
 
-fn size_of(answer: SizeAnswer) -> usize {
-    match answer {
-        SizeAnswer::Size(size) => size,
-        SizeAnswer::Refused(number, place) => 0,
+// Number and place; 0 for a table that is accepted.
+fn judged_seen(h: Head, ts: &[u8], cs: &[u8]) -> Seen {
+    let r = sheet_engine::judge_table(h, ts, cs);
+    Seen {
+        a: r.number as usize,
+        b: r.place,
+        c: 0,
     }
 }
 
-fn read_first(s: &[u8], size: usize) -> usize {
-    if size < s.len() {
-        return rows_of(codec::read(&s[..size]));
-    }
-    rows_of(codec::read(s))
-}
-
-fn read_sheet(s: &[u8; 2066], size: usize) -> usize {
-    read_first(s, size)
-}
-
-fn head(m: usize, n: usize, k: usize) -> Head {
-    Head {
-        evaluation: 0,
-        m,
-        n,
-        k,
-    }
-}
-
-// The sheet that is read is written first, whether or not it is then read.
-fn run(h: Head, ts: &[u8; 1024], cs: &[u8; 1024], call: u8, made: bool) -> usize {
+// The size, and the byte at a place.
+fn written_seen(h: Head, ts: &[u8], cs: &[u8], at: u8) -> Seen {
     let mut out = [0; 2066];
-    if call == b'r' {
-        let size = size_of(codec::write(h, ts, cs, &mut out));
-        if made {
-            return read_sheet(&out, size);
-        }
-        return size;
+    match sheet_engine::write_sheet(h, ts, cs, &mut out) {
+        SizeAnswer::Size(size) => Seen {
+            a: size,
+            b: wide(out[at as usize]),
+            c: 0,
+        },
+        SizeAnswer::Refused(number, place) => Seen {
+            a: number as usize,
+            b: place,
+            c: 0,
+        },
     }
-    if !made {
-        return 0;
-    }
-    if call == b'j' {
-        let r = judge::judge(h, ts, cs);
-        return r.place;
-    }
-    size_of(codec::write(h, ts, cs, &mut out))
 }
 
-fn answer(call: u8, which: u8, made: bool) -> usize {
-    let mut ts = [0; 1024];
-    let mut cs = [0; 1024];
-    if which == b't' {
-        put_typical(&mut ts, &mut cs);
-        return run(head(3, 24, 6), &ts, &cs, call, made);
+// Row, number and link of a failure; 0 for pass.
+fn verdict_seen(answer: VerdictAnswer) -> Seen {
+    match answer {
+        VerdictAnswer::Pass => Seen { a: 0, b: 0, c: 0 },
+        VerdictAnswer::Fail { row, number, link } => Seen {
+            a: row,
+            b: number,
+            c: link,
+        },
+        VerdictAnswer::Refused(number, place) => Seen {
+            a: number as usize,
+            b: place,
+            c: 0,
+        },
     }
-    if which == b'l' {
-        put_largest(&mut ts, &mut cs);
-        return run(head(64, 256, 256), &ts, &cs, call, made);
+}
+
+// The size of a list, and the row at a place of it.
+fn size_seen(answer: SizeAnswer, rows: [u8; 256], at: u8) -> Seen {
+    match answer {
+        SizeAnswer::Size(size) => Seen {
+            a: size,
+            b: rows[at as usize] as usize,
+            c: 0,
+        },
+        SizeAnswer::Refused(number, place) => Seen {
+            a: number as usize,
+            b: place,
+            c: 0,
+        },
     }
-    run(head(0, 1, 0), &ts, &cs, call, made)
+}
+
+// 1 act, 2 set, 3 open, 4 clean, with their values.
+fn kind_seen(kind: StepKind) -> Seen {
+    match kind {
+        StepKind::Act(a) => Seen {
+            a: 1,
+            b: a as usize,
+            c: 0,
+        },
+        StepKind::Set(l, v) => Seen {
+            a: 2,
+            b: l as usize,
+            c: v as usize,
+        },
+        StepKind::Open => Seen { a: 3, b: 0, c: 0 },
+        StepKind::Clean => Seen { a: 4, b: 0, c: 0 },
+        StepKind::Refused(number, place) => Seen {
+            a: number as usize,
+            b: place,
+            c: 0,
+        },
+    }
+}
+
+// The mode, the mark of a row and the value of a link.
+fn state_seen(s: State, at: u8) -> Seen {
+    let mode = s.mode as usize;
+    let mark = s.marks[at as usize] as usize;
+    if at < 64 {
+        return Seen {
+            a: mode,
+            b: mark,
+            c: s.links[at as usize] as usize,
+        };
+    }
+    Seen {
+        a: mode,
+        b: mark,
+        c: 0,
+    }
+}
+
+fn list_seen(s: State, h: Head, ts: &[u8], cs: &[u8], at: u8) -> Seen {
+    let mut rows = [0; 256];
+    let answer = sheet_engine::list_steps(s, h, ts, cs, &mut rows);
+    size_seen(answer, rows, at)
+}
+
+fn called(call: u8, s: State, h: Head, ts: &[u8], cs: &[u8], mode: u8, row: u8) -> Seen {
+    match call {
+        b'j' => judged_seen(h, ts, cs),
+        b'w' => written_seen(h, ts, cs, row),
+        b'v' => verdict_seen(sheet_engine::give_verdict(h, ts, cs)),
+        b's' => {
+            let started = sheet_engine::start(h, ts, cs, mode);
+            state_seen(started.state, row)
+        }
+        b'l' => list_seen(s, h, ts, cs, row),
+        b'k' => kind_seen(sheet_engine::step_kind(s, h, ts, cs, row as usize)),
+        _ => {
+            let next = sheet_engine::take_step(s, h, ts, cs, row as usize);
+            state_seen(next.state, row)
+        }
+    }
+}
+
+// The state after steps; one that is refused changes nothing.
+fn after(s: State, h: Head, ts: &[u8], cs: &[u8], rows: &[u8]) -> State {
+    let mut state = s;
+    let mut i = 0;
+    while i < rows.len() {
+        let next = sheet_engine::take_step(state, h, ts, cs, wide(rows[i]));
+        state = next.state;
+        i += 1;
+    }
+    state
+}
+
+fn answer(
+    call: u8,
+    made: bool,
+    mode: u8,
+    row: u8,
+    rows: &[u8],
+    h: Head,
+    ts: &[u8],
+    cs: &[u8],
+) -> Seen {
+    let started = sheet_engine::start(h, ts, cs, mode);
+    let s = after(started.state, h, ts, cs, rows);
+    if made {
+        return called(call, s, h, ts, cs, mode, row);
+    }
+    state_seen(s, row)
+}
+
+// Reading alone: any other call reads the sheet before.
+fn read(made: bool, s: &[u8]) -> Seen {
+    if made {
+        return sheet_seen(sheet_engine::read_sheet(s));
+    }
+    Seen {
+        a: s.len(),
+        b: 0,
+        c: 0,
+    }
+}
+
+fn run(call: u8, made: bool, mode: u8, row: u8, rows: &[u8], s: &[u8]) -> Seen {
+    if call == b'r' {
+        return read(made, s);
+    }
+    match sheet_engine::read_sheet(s) {
+        SheetAnswer::Sheet(h) => answer(
+            call,
+            made,
+            mode,
+            row,
+            rows,
+            h,
+            sheet_engine::terms_part(s),
+            sheet_engine::conditions_part(s),
+        ),
+        SheetAnswer::Refused(number, place) => Seen {
+            a: number as usize,
+            b: place,
+            c: 0,
+        },
+    }
+}
+
+fn split(call: u8, made: bool, mode: u8, row: u8, first: u8, s: &[u8]) -> Seen {
+    let count = wide(first);
+    if s.len() <= count {
+        return Seen { a: 1, b: 0, c: 0 };
+    }
+    run(call, made, mode, row, &s[..count], &s[count..])
+}
+
+fn print(x: usize, end: &[u8]) {
+    io::print_hex(STDOUT_FILENO, x as u64, 4);
+    io::write_all(STDOUT_FILENO, end);
 }
 
 fn main() {
     let mut buffer = io::buffer();
     let n = io::read_full(STDIN_FILENO, &mut buffer);
-    if n < 3 {
+    if n < 5 {
         return;
     }
-    let r = answer(buffer[0], buffer[1], buffer[2] == b'1');
-    io::print_hex(STDOUT_FILENO, r as u64, 4);
-    io::write_all(STDOUT_FILENO, b"\n");
+    let seen = split(
+        buffer[0],
+        buffer[1] == b'1',
+        buffer[2],
+        buffer[3],
+        buffer[4],
+        &buffer[5..n],
+    );
+    print(seen.a, b" ");
+    print(seen.b, b" ");
+    print(seen.c, b"\n");
 }

@@ -2,12 +2,12 @@ use mathlib.Core.Path.{sym}
 use lib.Seq.{length-take-le}
 use native.Mathlib.Omega.{arith}
 use borrow.Author.Needs.{needs}
-use Rattle.call_costs.proofs.split.Statement.{statement}
-use Rattle.call_costs.proofs.split.Tie as tie
-use Rattle.call_costs.proofs.split.Reads as reads
-use Rattle.call_costs.proofs.split.Lts as lts
-use Rattle.call_costs.proofs.run.Reads as run-reads
-use Rattle.call_costs.proofs.wide.Reads as wide-reads
+use Rattle.costs.proofs.split.Statement.{statement}
+use Rattle.costs.proofs.split.Tie as tie
+use Rattle.costs.proofs.split.Reads as reads
+use Rattle.costs.proofs.split.Lts as lts
+use Rattle.costs.proofs.run.Reads as run-reads
+use Rattle.costs.proofs.wide.Reads as wide-reads
 
 -- src/main.rt:118:9
 wide-requires : tie.Need-wide-requires

@@ -2,11 +2,11 @@ use Prim.Native.Nat.{_-_, _≤_}
 use native.Mathlib.Omega.{arith}
 use lib.ListN.{length}
 use borrow.Author.Needs.{needs}
-use Rattle.call_costs.proofs.after.Statement.{statement}
-use Rattle.call_costs.proofs.after.Tie as tie
-use Rattle.call_costs.proofs.after.Reads as reads
-use Rattle.call_costs.proofs.after.Lts as lts
-use Rattle.call_costs.proofs.wide.Reads as wide-reads
+use Rattle.costs.proofs.after.Statement.{statement}
+use Rattle.costs.proofs.after.Tie as tie
+use Rattle.costs.proofs.after.Reads as reads
+use Rattle.costs.proofs.after.Lts as lts
+use Rattle.costs.proofs.wide.Reads as wide-reads
 use Rattle.sheet_engine.proofs.take_step.Reads as take-step-reads
 
 abbrev Inv-loop : tie.InvT-loop
