@@ -14,18 +14,18 @@ use Rattle.laws.proofs.Lowest.{lowest-below, lowest-at}
 use Rattle.laws.proofs.Tests.{cases, not-both, and-l, and-r}
 use Rattle.calculus.specs.Status.{Value, Unset, False, True, Links, with-unset}
 use Rattle.calculus.specs.Order.{_⊑_, Condition2}
-use Rattle.calculus.proofs.Order.{false≢unset, Under, cases-below}
+use Rattle.calculus.proofs.Order.{false≢unset}
 use Rattle.conditions.specs.Conditions.{Condition, reached, Evaluation, value}
 use Rattle.conditions.specs.Numbers.{undigit, linksOf, assign, Offends}
 use Rattle.conditions.specs.Failure.{isTrue, isFalse, flips, offender, quiet, number, fails}
-use Rattle.conditions.proofs.Numbers.{numbers-decide-of, put-cases, links-decide, links-inside}
+use Rattle.conditions.proofs.Numbers.{numbers-decide-of, unset-under, links-decide, links-inside}
 
 pub true-is : (u : Value) → isTrue u ≡ true → u ≡ True
 true-is Unset e = absurd (true≢false (sym e))
 true-is False e = absurd (true≢false (sym e))
 true-is True e = refl
 
-false-is : (u : Value) → isFalse u ≡ true → u ≡ False
+pub false-is : (u : Value) → isFalse u ≡ true → u ≡ False
 false-is Unset e = absurd (true≢false (sym e))
 false-is False e = refl
 false-is True e = absurd (true≢false (sym e))
@@ -50,11 +50,11 @@ abbrev pub Pair : (Links → Value) → Type 0
 Pair value = (A : Links) × (B : Links) × (A ⊑ B) × (value B ≡ True) × (value A ≡ True → ⊥)
 
 module _ (value : Links → Value) (m : ℕ) where
-  abbrev FlipsAt : Links → ℕ → Type 0
+  abbrev pub FlipsAt : Links → ℕ → Type 0
   FlipsAt v l = (value v ≡ True) × (v l ≡ False) × (value (with-unset v l) ≡ True → ⊥)
 
   -- a link that is found flips
-  offender-flips : (v : Links) → offender value m v < m → FlipsAt v (offender value m v)
+  pub offender-flips : (v : Links) → offender value m v < m → FlipsAt v (offender value m v)
   unfolding offender flips
   offender-flips v h = at (isTrue (value v)) refl h
     where
@@ -67,7 +67,7 @@ module _ (value : Links → Value) (m : ℕ) where
       at false e h = absurd (omega arith)
 
   -- no link below the one that is found flips
-  offender-least : (v : Links) (l : ℕ) → l < m → FlipsAt v l → offender value m v ≤ l
+  pub offender-least : (v : Links) (l : ℕ) → l < m → FlipsAt v l → offender value m v ≤ l
   unfolding offender flips
   offender-least v l lt (o, f, g) =
       rw (ap isTrue o)
@@ -120,7 +120,7 @@ module _ (value : Links → Value) (m : ℕ) (ls : List ℕ) (inside : (k : ℕ)
         let l : ℕ = offender value m (assign ls x) in (
           with-unset (assign ls x) l,
           assign ls x,
-          (λ k. cases-below (put-cases (λ (u : Value). Under u (assign ls x k)) l Unset (assign ls x) k (λ p. inr (refl, ap (assign ls x) p ∙ o .false-there)) (inl refl))),
+          unset-under (assign ls x) l (o .false-there),
           o .true-there,
           o .not-true,
         )

@@ -1,27 +1,30 @@
--- The words of digits show link values, lane by lane. Assumes nothing.
-use Prim.Native.Nat.{ℕ, zero, suc, _+_, _<_, _≤_, _/_, _%_}
-use mathlib.Core.Path.{_≡_, refl, sym, _∙_, ap, fun-ext}
-use mathlib.Core.Bool.{Bool, true, false, cond}
+-- The words of digits show link values, lane by lane, and one evaluation shows where a condition is not steady. Assumes nothing.
+use Prim.Native.Nat.{ℕ, zero, suc, _+_, _-_, _^_, _<_, _≤_, _/_, _%_}
+use mathlib.Core.Path.{_≡_, refl, sym, _∙_, ap₂, fun-ext}
+use mathlib.Core.Bool.{Bool, true, false, cond, not, _&&_}
 use mathlib.Core.List.{List, [], _∷_}
 use mathlib.Core.Logic.{by-cases}
 use native.Mathlib.Omega.{arith}
-use native.Mathlib.Decide.{decLt, ℕ-discrete}
-use lib.Dec.{eqb, ltb}
-use lib.ListN.{getD, set, replicate}
-use lib.Seq.{getD-set-other}
-use borrow.Author.Tests.{lt-ltb, le-ltb, eq-eqb, ne-eqb}
+use native.Mathlib.Decide.{decLt}
+use lib.Dec.{eqb}
+use lib.ListN.{getD}
+use lib.Bits.{bitAnd}
+use borrow.Author.Tests.{lt-ltb, le-ltb, ne-eqb}
 use Rattle.laws.specs.Listed.{listed}
-use Rattle.laws.proofs.Up.{getD-constant}
-use Rattle.calculus.specs.Status.{Value, Unset, False, Links, with-unset}
+use Rattle.calculus.specs.Status.{Value, Unset, False, True, Links}
 use Rattle.conditions.specs.Numbers.{undigit, assign}
 use Rattle.conditions.specs.Failure.{isTrue, isFalse}
-use Rattle.conditions.specs.Total.{spread, bitValue, total}
+use Rattle.conditions.specs.Total.{spread, bitValue, total, steady}
 use Rattle.conditions.proofs.Total.{spread-assign}
+use Rattle.sheet.specs.Table.{evalOf}
 use Rattle.reach.specs.Masks.{hasBit}
-use Rattle.reach.proofs.Bits.{bit-none}
-use Rattle.lanes.specs.Lanes.{Shows, allUnset, linkLanes, LinksShow}
+use Rattle.reach.proofs.Bits.{bit-and, bit-not, bit-none}
+use Rattle.lanes.specs.declared.Lanes.{Lanes}
+use Rattle.lanes.specs.Lanes.{Shows, linkLanes, LinksShow, Valued}
 use Rattle.words.specs.Words.{digitIs, Words}
-use Rattle.failure.proofs.Fill.{set-zero}
+use Rattle.failure.specs.Blocks.{Failing, steadyTotal, steadyNumber, Unsteady}
+use Rattle.failure.specs.Failure.{linksAt, Narrow}
+use Rattle.failure.proofs.Search.{narrow-links}
 
 -- a link past the list is unset
 spread-out : (f : ℕ → Value) (b : ℕ) (p : ℕ → Bool) (i c x k : ℕ) → i + c ≤ k → spread f b (listed p i c) x k ≡ Unset
@@ -51,41 +54,31 @@ three (suc zero) h = (refl, refl)
 three (suc (suc zero)) h = (refl, refl)
 three (suc (suc (suc y))) h = absurd (omega arith)
 
-two : (y : ℕ) → y < 2 → (eqb y 1 ≡ isTrue (bitValue False y)) × (eqb y 0 ≡ isFalse (bitValue False y)) × (eqb y 1 ≡ isTrue (bitValue Unset y)) × (false ≡ isFalse (bitValue Unset y))
-two zero h = (refl, refl, refl, refl)
-two (suc zero) h = (refl, refl, refl, refl)
+two : (y : ℕ) → y < 2 → (eqb y 1 ≡ isTrue (bitValue y)) × (eqb y 0 ≡ isFalse (bitValue y))
+two zero h = (refl, refl)
+two (suc zero) h = (refl, refl)
 two (suc (suc y)) h = absurd (omega arith)
-
--- no link is false where 0 stands for unset
-none-false : (ls : List ℕ) (x l : ℕ) → false ≡ isFalse (total Unset ls x l)
-unfolding spread
-none-false [] x l = refl
-none-false (k ∷ ls) x l = at (eqb l k) (none-false ls (x / 2) l)
-  where
-    at : (t : Bool) → false ≡ isFalse (total Unset ls (x / 2) l) → false ≡ isFalse (cond t (bitValue Unset (x % 2)) (total Unset ls (x / 2) l))
-    at true ih = two (x % 2) (omega arith) .3
-    at false ih = ih
 
 module _ (p : ℕ → Bool) (m x : ℕ) (h : m ≤ 64) (trues falses : List ℕ) where
   -- words that show the links below 64 show all
   links-show : (f : ℕ → Value) (b : ℕ) → ((l : ℕ) → l < 64 → (j : ℕ) → j < 64 → (hasBit (getD trues l 0) j ≡ isTrue (spread f b (listed p 0 m) (x + j) l)) × (hasBit (getD falses l 0) j ≡ isFalse (spread f b (listed p 0 m) (x + j) l))) → LinksShow trues falses (λ j. spread f b (listed p 0 m) (x + j))
-  unfolding LinksShow Shows linkLanes
+  unfolding LinksShow linkLanes
   links-show f b s l j k =
       by-cases (decLt l 64)
       (λ (q : l < 64). rw (lt-ltb l 64 q) (s l q j k))
       (λ (q : l < 64 → ⊥). let z : 64 ≤ l = omega arith in rw (le-ltb l 64 z, spread-out f b p 0 m (x + j) l (omega arith)) (bit-none j, bit-none j))
 
   -- 64 total assignments
-  pub show-total : Words 2 1 (listed p 0 m) x trues → Words 2 0 (listed p 0 m) x falses → LinksShow trues falses (λ j. total False (listed p 0 m) (x + j))
+  show-total : Words 2 1 (listed p 0 m) x trues → Words 2 0 (listed p 0 m) x falses → LinksShow trues falses (λ j. total (listed p 0 m) (x + j))
   unfolding Words
   show-total t f =
-      links-show (bitValue False) 2 (λ l q j k. (
-        t l q j k ∙ digit-test (bitValue False) 2 1 isTrue refl (λ y. two (y % 2) (omega arith) .0) (listed p 0 m) (x + j) l,
-        f l q j k ∙ digit-test (bitValue False) 2 0 isFalse refl (λ y. two (y % 2) (omega arith) .1) (listed p 0 m) (x + j) l,
+      links-show (bitValue) 2 (λ l q j k. (
+        t l q j k ∙ digit-test (bitValue) 2 1 isTrue refl (λ y. two (y % 2) (omega arith) .0) (listed p 0 m) (x + j) l,
+        f l q j k ∙ digit-test (bitValue) 2 0 isFalse refl (λ y. two (y % 2) (omega arith) .1) (listed p 0 m) (x + j) l,
       ))
 
   -- 64 numbers
-  pub show-assign : Words 3 2 (listed p 0 m) x trues → Words 3 1 (listed p 0 m) x falses → LinksShow trues falses (λ j. assign (listed p 0 m) (x + j))
+  show-assign : Words 3 2 (listed p 0 m) x trues → Words 3 1 (listed p 0 m) x falses → LinksShow trues falses (λ j. assign (listed p 0 m) (x + j))
   unfolding Words
   show-assign t f =
       rw (← same)
@@ -97,23 +90,25 @@ module _ (p : ℕ → Bool) (m x : ℕ) (h : m ≤ 64) (trues falses : List ℕ)
       same : _≡_ {A = ℕ → Links} (λ j. spread undigit 3 (listed p 0 m) (x + j)) (λ j. assign (listed p 0 m) (x + j))
       same = fun-ext (λ j. fun-ext (spread-assign (listed p 0 m) (x + j)))
 
--- the same with every false link unset
-pub show-low : (p : ℕ → Bool) (m x : ℕ) → m ≤ 64 → (trues : List ℕ) → Words 2 1 (listed p 0 m) x trues → LinksShow trues (replicate 64 0) (λ j. total Unset (listed p 0 m) (x + j))
-unfolding Words
-show-low p m x h trues t =
-    links-show p m x h trues (replicate 64 0) (bitValue Unset) 2 (λ l q j k. (
-      t l q j k ∙ digit-test (bitValue Unset) 2 1 isTrue refl (λ y. two (y % 2) (omega arith) .2) (listed p 0 m) (x + j) l,
-      ap (λ (w : ℕ). hasBit w j) (getD-constant {A = ℕ} 0 64 l) ∙ bit-none j ∙ none-false (listed p 0 m) (x + j) l,
-    ))
+-- true, and not kept
+lane : (u : Value) (k : Bool) → (isTrue u && not k) ≡ not (cond (isTrue u) (isTrue (cond k u Unset)) true)
+lane Unset k = refl
+lane False k = refl
+lane True true = refl
+lane True false = refl
 
--- one link made unset in every lane
-pub show-unset : (trues falses : List ℕ) (v : ℕ → Links) (l : ℕ) → LinksShow trues falses v → LinksShow (set trues l 0) (set falses l 0) (λ j. with-unset (v j) l)
-unfolding LinksShow Shows linkLanes
-show-unset trues falses v l s k j q =
-    by-cases (ℕ-discrete k l)
-    (λ (e : k ≡ l). rw (e, eq-eqb l l refl, set-zero trues l, set-zero falses l) (at (ltb l 64)))
-    (λ (e : k ≡ l → ⊥). rw (ne-eqb k l e, getD-set-other trues l k 0 0 e, getD-set-other falses l k 0 0 e) (s k j q))
-  where
-    at : (t : Bool) → (hasBit (cond t allUnset allUnset .trues) j ≡ false) × (hasBit (cond t allUnset allUnset .falses) j ≡ false)
-    at true = (bit-none j, bit-none j)
-    at false = (bit-none j, bit-none j)
+pub unsteady-is : (e : ℕ) (cs : List ℕ) (row : ℕ) (trues falses : List ℕ) (r : Lanes) → r .kept < 2 ^ 64 → Valued e cs row trues falses r → Unsteady e cs row trues falses (bitAnd (r .trues) (2 ^ 64 - 1 - r .kept))
+unfolding Unsteady Valued Shows steady
+unsteady-is e cs row trues falses r small f v s j h =
+    let (t, g, k) = f v s j h in
+    bit-and (r .trues) (2 ^ 64 - 1 - r .kept) j ∙ ap₂ _&&_ t (bit-not 64 (r .kept) j small h) ∙ lane (evalOf e cs row (v j)) (hasBit (r .kept) j) ∙ rw k refl
+
+-- at 64 total assignments, and at 64 numbers, of a row that is narrow
+module _ (m : ℕ) (cs : List ℕ) (row mask : ℕ) (g : Narrow m cs row mask) (e x : ℕ) (trues falses : List ℕ) (r : ℕ) (u : Unsteady e cs row trues falses r) where
+  pub failing-totals : Words 2 1 (listed (hasBit mask) 0 m) x trues → Words 2 0 (listed (hasBit mask) 0 m) x falses → Failing (steadyTotal e m cs row) x r
+  unfolding Failing Unsteady
+  failing-totals t f = rw (← narrow-links m cs row mask g) (u (λ j. total (listed (hasBit mask) 0 m) (x + j)) (show-total (hasBit mask) m x (g .few-links) trues falses t f))
+
+  pub failing-numbers : Words 3 2 (listed (hasBit mask) 0 m) x trues → Words 3 1 (listed (hasBit mask) 0 m) x falses → Failing (steadyNumber e m cs row) x r
+  unfolding Failing Unsteady
+  failing-numbers t f = rw (← narrow-links m cs row mask g) (u (λ j. assign (listed (hasBit mask) 0 m) (x + j)) (show-assign (hasBit mask) m x (g .few-links) trues falses t f))

@@ -1,6 +1,5 @@
-pub mod Fill
-pub mod Numbers
-pub mod Lanes
 pub mod Search
-pub mod Pass
-pub mod Least
+pub mod Lanes
+pub mod Blocks
+pub mod Found
+pub mod Rest

@@ -1,22 +1,25 @@
 -- What is known of a row that is narrow, and its failure from what the searches find. Assumes nothing.
 use Prim.Native.Nat.{ℕ, _^_, _<_, _≤_}
-use mathlib.Core.Path.{_≡_, refl, _∙_, ap, ap₂}
+use mathlib.Core.Path.{_≡_, refl, sym, _∙_, ap, ap₂}
 use mathlib.Core.Bool.{true, false, not}
 use mathlib.Core.List.{List}
 use native.Mathlib.Nat.{pow-le-pow-right}
 use lib.ListN.{length}
 use borrow.Author.Tests.{not-true, not-false}
+use Rattle.laws.specs.Lowest.{lowest}
 use Rattle.laws.specs.Listed.{listed}
 use Rattle.calculus.specs.Status.{Links}
 use Rattle.conditions.specs.Conditions.{condition}
 use Rattle.conditions.specs.Numbers.{assign}
-use Rattle.conditions.specs.Failure.{offender}
+use Rattle.conditions.specs.Failure.{isFalse}
 use Rattle.conditions.specs.Total.{steady, passes}
 use Rattle.conditions.proofs.Total.{condition-passes, condition-unsteady}
+use Rattle.conditions.proofs.Least.{condition-number, condition-link}
 use Rattle.sheet.specs.Table.{conditionRowAt, evaluationOf, evalOf}
 use Rattle.reach.specs.Masks.{hasBit}
 use Rattle.reach.proofs.Links.{mask-links, mask-width}
 use Rattle.failure.specs.declared.Failure.the-variants.{None, At}
+use Rattle.failure.specs.Blocks.{steadyNumber}
 use Rattle.failure.specs.Failure.{linksAt, failsAt, numberAt, linkAt, failureOf, Narrow}
 
 -- of a row that is narrow
@@ -35,27 +38,31 @@ module _ (m : ℕ) (cs : List ℕ) (row mask : ℕ) (g : Narrow m cs row mask) w
   pub narrow-few : length (listed (hasBit mask) 0 m) ≤ 8
   narrow-few = rw narrow-links (g .narrow)
 
-  pub narrow-assign : (v : Links) (x : ℕ) → v ≡ assign (listed (hasBit mask) 0 m) x → v ≡ assign (linksAt m cs row) x
-  narrow-assign v x e = rw narrow-links at e
-
   pub narrow-passes : (e : ℕ) → passes (evalOf e cs row) (linksAt m cs row) ≡ not (failsAt e m cs row)
   unfolding failsAt
   narrow-passes e = condition-passes (evaluationOf e) m (condition (conditionRowAt cs) row) (g .below-m)
 
-  pub narrow-unsteady : (e s : ℕ) → steady (evalOf e cs row) (linksAt m cs row) s ≡ false → failsAt e m cs row ≡ true
+  pub narrow-unsteady : (e : ℕ) (v : Links) → steady (evalOf e cs row) v ≡ false → failsAt e m cs row ≡ true
   unfolding failsAt
-  narrow-unsteady e s q = condition-unsteady (evaluationOf e) m (condition (conditionRowAt cs) row) (g .below-m) s q
+  narrow-unsteady e v q = condition-unsteady (evaluationOf e) m (condition (conditionRowAt cs) row) (g .below-m) v q
 
--- the failure, from what the searches find
-module _ (e m : ℕ) (cs : List ℕ) (row : ℕ) where
-  pub failure-none : not (failsAt e m cs row) ≡ true → None ≡ failureOf e m cs row
+  -- the number is the smallest at which the condition is not steady
+  pub narrow-number : (e : ℕ) → numberAt e m cs row ≡ lowest (steadyNumber e m cs row) 0 (3 ^ length (linksAt m cs row))
+  unfolding numberAt
+  narrow-number e = condition-number (evaluationOf e) m (condition (conditionRowAt cs) row) (g .below-m)
+
+  -- the link is the lowest that is false there
+  narrow-link : (e : ℕ) → failsAt e m cs row ≡ true → linkAt e m cs row ≡ lowest (λ l. not (isFalse (assign (linksAt m cs row) (numberAt e m cs row) l))) 0 m
+  unfolding failsAt numberAt linkAt
+  narrow-link e h = condition-link (evaluationOf e) m (condition (conditionRowAt cs) row) (g .below-m) h
+
+  -- the failure, from what the searches find
+  pub failure-at : (e x l : ℕ) → not (failsAt e m cs row) ≡ false → x ≡ numberAt e m cs row → l ≡ lowest (λ l. not (isFalse (assign (listed (hasBit mask) 0 m) x l))) 0 m → At x l ≡ failureOf e m cs row
   unfolding failureOf
-  failure-none h = rw (not-true (failsAt e m cs row) h) refl
+  failure-at e x l h p q =
+      let f : failsAt e m cs row ≡ true = not-false (failsAt e m cs row) h in
+      rw f (ap₂ At p (q ∙ rw (narrow-links, p) (sym (narrow-link e f))))
 
-  pub link-is : (x l : ℕ) → x ≡ numberAt e m cs row → l ≡ offender (evalOf e cs row) m (assign (linksAt m cs row) x) → l ≡ linkAt e m cs row
-  unfolding linkAt
-  link-is x l p q = q ∙ ap (λ (y : ℕ). offender (evalOf e cs row) m (assign (linksAt m cs row) y)) p
-
-  pub failure-at : (x l : ℕ) → not (failsAt e m cs row) ≡ false → x ≡ numberAt e m cs row → l ≡ offender (evalOf e cs row) m (assign (linksAt m cs row) x) → At x l ≡ failureOf e m cs row
-  unfolding failureOf
-  failure-at x l h p q = rw (not-false (failsAt e m cs row) h) (ap₂ At p (link-is x l p q))
+pub failure-none : (e m : ℕ) (cs : List ℕ) (row : ℕ) → not (failsAt e m cs row) ≡ true → None ≡ failureOf e m cs row
+unfolding failureOf
+failure-none e m cs row h = rw (not-true (failsAt e m cs row) h) refl

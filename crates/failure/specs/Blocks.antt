@@ -1,32 +1,28 @@
--- What is asked of 64 numbers at once: lane j is the number x + j, or the link values v j.
-use Prim.Native.Nat.{ℕ, zero, suc, _+_, _<_}
+-- What is asked of 64 numbers at once, or of 64 link values: lane j is the number x + j, or the link values v j.
+use Prim.Native.Nat.{ℕ, _+_, _<_}
 use mathlib.Core.Path.{_≡_}
-use mathlib.Core.Bool.{Bool, false, not}
+use mathlib.Core.Bool.{Bool, not}
 use mathlib.Core.List.{List}
-use lib.Dec.{leb}
-use Rattle.laws.specs.Tests.{or}
-use Rattle.laws.specs.Lowest.{lowest}
-use Rattle.calculus.specs.Status.{Value, Links, with-unset}
-use Rattle.conditions.specs.Failure.{isTrue, flips, quiet}
-use Rattle.conditions.specs.Total.{steady}
+use Rattle.calculus.specs.Status.{Links}
+use Rattle.conditions.specs.Numbers.{assign}
+use Rattle.conditions.specs.Total.{total, steady}
 use Rattle.sheet.specs.Table.{evalOf}
 use Rattle.reach.specs.Masks.{hasBit}
 use Rattle.lanes.specs.Lanes.{LinksShow}
+use Rattle.failure.specs.Failure.{linksAt}
 
-unfoldable pub steadyBlock : (Links → Value) → List ℕ → ℕ → Bool
-steadyBlock value ls x = leb 64 (lowest (λ j. steady value ls (x + j)) 0 64)
+-- the lanes at which a test fails
+unfoldable pub Failing : (ℕ → Bool) → ℕ → ℕ → Type 0
+Failing p x r = (j : ℕ) → j < 64 → hasBit r j ≡ not (p (x + j))
 
--- the lanes that are true with link l made unset
-unfoldable pub Without : ℕ → List ℕ → ℕ → List ℕ → List ℕ → ℕ → ℕ → Type 0
-Without e cs row trues falses l r = (v : ℕ → Links) → LinksShow trues falses v → (j : ℕ) → j < 64 → hasBit r j ≡ isTrue (evalOf e cs row (with-unset (v j) l))
+-- the condition is steady at a total assignment, and at a number
+module _ (e m : ℕ) (cs : List ℕ) (row : ℕ) where
+  abbrev pub steadyTotal : ℕ → Bool
+  steadyTotal s = steady (evalOf e cs row) (total (linksAt m cs row) s)
 
--- some link below m flips
-unfoldable pub flipsBelow : (Links → Value) → Links → ℕ → Bool
-flipsBelow value v zero = false
-flipsBelow value v (suc m) = or (flipsBelow value v m) (flips value v m)
+  abbrev pub steadyNumber : ℕ → Bool
+  steadyNumber x = steady (evalOf e cs row) (assign (linksAt m cs row) x)
 
-unfoldable pub Flippers : ℕ → List ℕ → ℕ → List ℕ → List ℕ → ℕ → ℕ → Type 0
-Flippers e cs row trues falses m r = (v : ℕ → Links) → LinksShow trues falses v → (j : ℕ) → j < 64 → hasBit r j ≡ flipsBelow (evalOf e cs row) (v j) m
-
-unfoldable pub Offenders : (Links → Value) → ℕ → List ℕ → ℕ → ℕ → Type 0
-Offenders value m ls x r = (j : ℕ) → j < 64 → hasBit r j ≡ not (quiet value m ls (x + j))
+-- the lanes at which it is not
+unfoldable pub Unsteady : ℕ → List ℕ → ℕ → List ℕ → List ℕ → ℕ → Type 0
+Unsteady e cs row trues falses r = (v : ℕ → Links) → LinksShow trues falses v → (j : ℕ) → j < 64 → hasBit r j ≡ not (steady (evalOf e cs row) (v j))

@@ -1,4 +1,4 @@
-// The value of a condition row under 64 link values at once: an operator is a few operations on words.
+// The value of a condition row under 64 link values at once, and its value with every false link unset: an operator is a few operations on words.
 ghost use mathlib.Core.Path.{_≡_};
 ghost use Prim.Native.Nat.{_+_, _*_, _<_, _≤_};
 ghost use lib.ListN.{length};
@@ -7,30 +7,33 @@ ghost use Rattle.conditions.specs.Operators.{AND, OR, EQ, NE};
 ghost use Rattle.sheet.specs.Table.{operatorOf, conditionRowBy, conditionRowAt};
 ghost use Rattle.lanes.specs.Lanes.{Shows, lanesAt, linkLanes, Operated, Stepped, Valued};
 
-// The lanes that are true, and those that are false.
+// The lanes that are true, those that are false, and those that keep their value with every false link unset. A lane that does not keep it is then unset.
 pub struct Lanes {
     pub trues: u64,
     pub falses: u64,
+    pub kept: u64,
 }
 
 const ALL: u64 = 18446744073709551615;
 
 fn constant(b: bool) -> Lanes
-    ensures { λ r. ⌜ Shows r (λ j. truth b) ⌝ }
+    ensures { λ r. ⌜ Shows r (λ j. truth b) (λ j. truth b) ⌝ }
 {
     if b {
         return Lanes {
             trues: ALL,
             falses: 0,
+            kept: ALL,
         };
     }
     Lanes {
         trues: 0,
         falses: ALL,
+        kept: ALL,
     }
 }
 
-// Strictly, a lane is false only where the other operand is set.
+// Lazily, a false operand that is kept keeps the lane. Strictly, a lane is false only where the other operand is set, and both operands have to be kept.
 fn and(evaluation: u8, a: Lanes, b: Lanes) -> Lanes
     ensures { λ r. ⌜ Operated evaluation AND a b r ⌝ }
 {
@@ -38,11 +41,13 @@ fn and(evaluation: u8, a: Lanes, b: Lanes) -> Lanes
         return Lanes {
             trues: a.trues & b.trues,
             falses: a.falses | b.falses,
+            kept: (a.kept & (b.kept | a.falses)) | (b.kept & b.falses),
         };
     }
     Lanes {
         trues: a.trues & b.trues,
         falses: (a.falses & (b.trues | b.falses)) | (a.trues & b.falses),
+        kept: a.kept & b.kept,
     }
 }
 
@@ -53,11 +58,13 @@ fn or(evaluation: u8, a: Lanes, b: Lanes) -> Lanes
         return Lanes {
             trues: a.trues | b.trues,
             falses: a.falses & b.falses,
+            kept: (a.kept & (b.kept | a.trues)) | (b.kept & b.trues),
         };
     }
     Lanes {
         trues: (a.trues & (b.trues | b.falses)) | (a.falses & b.trues),
         falses: a.falses & b.falses,
+        kept: a.kept & b.kept,
     }
 }
 
@@ -67,6 +74,7 @@ fn equal(evaluation: u8, a: Lanes, b: Lanes) -> Lanes
     Lanes {
         trues: (a.trues & b.trues) | (a.falses & b.falses),
         falses: (a.trues & b.falses) | (a.falses & b.trues),
+        kept: a.kept & b.kept,
     }
 }
 
@@ -76,6 +84,7 @@ fn differ(evaluation: u8, a: Lanes, b: Lanes) -> Lanes
     Lanes {
         trues: (a.trues & b.falses) | (a.falses & b.trues),
         falses: (a.trues & b.trues) | (a.falses & b.falses),
+        kept: a.kept & b.kept,
     }
 }
 
@@ -91,6 +100,7 @@ fn operate(evaluation: u8, o: u8, a: Lanes, b: Lanes) -> Lanes
     }
 }
 
+// What is kept of a link is what is true.
 fn of_link(lt: &[u64; 64], lf: &[u64; 64], l: u8) -> Lanes
     ensures { λ r. ⌜ r ≡ linkLanes (now (lt .entry)) (now (lf .entry)) l ⌝ }
 {
@@ -98,20 +108,24 @@ fn of_link(lt: &[u64; 64], lf: &[u64; 64], l: u8) -> Lanes
         return Lanes {
             trues: 0,
             falses: 0,
+            kept: 0,
         };
     }
+    let t = lt[l as usize];
     Lanes {
-        trues: lt[l as usize],
+        trues: t,
         falses: lf[l as usize],
+        kept: t,
     }
 }
 
-fn of_row(trues: &[u64; 256], falses: &[u64; 256], row: u8) -> Lanes
-    ensures { λ r. ⌜ r ≡ lanesAt (now (trues .entry)) (now (falses .entry)) row ⌝ }
+fn of_row(trues: &[u64; 256], falses: &[u64; 256], kept: &[u64; 256], row: u8) -> Lanes
+    ensures { λ r. ⌜ r ≡ lanesAt (now (trues .entry)) (now (falses .entry)) (now (kept .entry)) row ⌝ }
 {
     Lanes {
         trues: trues[row as usize],
         falses: falses[row as usize],
+        kept: kept[row as usize],
     }
 }
 
@@ -125,8 +139,9 @@ fn row_by(
     lf: &[u64; 64],
     trues: &[u64; 256],
     falses: &[u64; 256],
+    kept: &[u64; 256],
 ) -> Lanes
-    ensures { λ r. ⌜ Stepped evaluation (conditionRowBy kind a b) (now (lt .entry)) (now (lf .entry)) (now (trues .entry)) (now (falses .entry)) r ⌝ }
+    ensures { λ r. ⌜ Stepped evaluation (conditionRowBy kind a b) (now (lt .entry)) (now (lf .entry)) (now (trues .entry)) (now (falses .entry)) (now (kept .entry)) r ⌝ }
 {
     match kind {
         0 => constant(false),
@@ -137,8 +152,8 @@ fn row_by(
                 operate(
                     evaluation,
                     kind - 3,
-                    of_row(trues, falses, a),
-                    of_row(trues, falses, b),
+                    of_row(trues, falses, kept, a),
+                    of_row(trues, falses, kept, b),
                 )
             } else {
                 constant(false)
@@ -155,9 +170,10 @@ fn step(
     lf: &[u64; 64],
     trues: &[u64; 256],
     falses: &[u64; 256],
+    kept: &[u64; 256],
 ) -> Lanes
     requires { ⌜ row * 4 + 4 ≤ length (now cs) ⌝ }
-    ensures { λ r. ⌜ Stepped evaluation (conditionRowAt (now (cs .entry)) row) (now (lt .entry)) (now (lf .entry)) (now (trues .entry)) (now (falses .entry)) r ⌝ }
+    ensures { λ r. ⌜ Stepped evaluation (conditionRowAt (now (cs .entry)) row) (now (lt .entry)) (now (lf .entry)) (now (trues .entry)) (now (falses .entry)) (now (kept .entry)) r ⌝ }
 {
     let at = row * 4;
     row_by(
@@ -169,22 +185,25 @@ fn step(
         lf,
         trues,
         falses,
+        kept,
     )
 }
 
-// The value of a row in each lane.
+// The value of a row in each lane. A row that is not there yet is false.
 pub fn value(evaluation: u8, cs: &[u8], row: usize, lt: &[u64; 64], lf: &[u64; 64]) -> Lanes
     requires { ⌜ (row * 4 + 4 ≤ length (now cs)) × (row < 256) ⌝ }
     ensures { λ r. ⌜ Valued evaluation (now (cs .entry)) row (now (lt .entry)) (now (lf .entry)) r ⌝ }
 {
     let mut trues = [0; 256];
     let mut falses = [ALL; 256];
+    let mut kept = [ALL; 256];
     let mut i = 0;
     while i < row {
-        let x = step(evaluation, cs, i, lt, lf, &trues, &falses);
+        let x = step(evaluation, cs, i, lt, lf, &trues, &falses, &kept);
         trues[i] = x.trues;
         falses[i] = x.falses;
+        kept[i] = x.kept;
         i += 1;
     }
-    step(evaluation, cs, row, lt, lf, &trues, &falses)
+    step(evaluation, cs, row, lt, lf, &trues, &falses, &kept)
 }

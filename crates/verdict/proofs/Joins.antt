@@ -1,7 +1,7 @@
 -- JOIN rows in bytes, what is known of the condition of one, and condition rows that are tried once. Assumes nothing.
 use Prim.Native.Nat.{ℕ, _+_, _*_, _<_, _≤_}
-use mathlib.Core.Path.{_≡_, refl, sym, _∙_, ap, ap₂}
-use mathlib.Core.Bool.{Bool, true, false, cond, not, _&&_, true≢false}
+use mathlib.Core.Path.{_≡_, refl, sym, _∙_, ap}
+use mathlib.Core.Bool.{Bool, true, false, cond, not, _&&_}
 use mathlib.Core.List.{List}
 use mathlib.Core.Logic.{by-cases}
 use native.Mathlib.Omega.{arith}
@@ -9,21 +9,19 @@ use native.Mathlib.Decide.{ℕ-discrete}
 use lib.Dec.{eqb}
 use lib.ListN.{length, getD, set, replicate}
 use lib.Seq.{getD-set-other}
-use borrow.Author.Tests.{lt-ltb, le-ltb, ne-eqb, not-true, not-false}
+use borrow.Author.Tests.{lt-ltb, le-ltb, ne-eqb, not-true}
 use Rattle.laws.specs.Up.{Filled}
-use Rattle.laws.proofs.Tests.{and-l}
 use Rattle.laws.proofs.Up.{filled-at, getD-constant}
 use Rattle.calculus.specs.Process.{act, out, join, pick, flow}
 use Rattle.steps.specs.Rows.{NIL, PREFIX, BRANCH}
-use Rattle.sheet.specs.Table.{Table, rowBy, rowAt, evalOf}
+use Rattle.sheet.specs.Table.{Table, rowBy, rowAt}
 use Rattle.reach.specs.Masks.{maskAt}
-use Rattle.conditions.specs.Numbers.{assign}
-use Rattle.conditions.specs.Failure.{offender}
-use Rattle.failure.specs.Failure.{linksAt, numberAt, Narrow}
-use Rattle.failure.proofs.Search.{link-is}
+use Rattle.failure.specs.declared.Failure.the-variants.{None, At}
+use Rattle.failure.specs.Failure.{failsAt, numberAt, linkAt, failureOf, Narrow}
+use Rattle.failure.proofs.Search.{failure-none}
 use Rattle.verdict.specs.declared.Verdict.the-variants.{Pass, Fail}
 use Rattle.verdict.specs.Verdict.{isJoinPrefix, isJoin, conditionOfPrefix, conditionOf, failsIn, sound, failing, failAt, verdictOf, Judged}
-use Rattle.verdict.specs.Tried.{Tried, marked}
+use Rattle.verdict.specs.Tried.{failureIn, Tried, marked}
 
 -- a row of kind 3 is a JOIN on the row that its second byte names
 module _ (ts : List ℕ) (j : ℕ) where
@@ -58,10 +56,6 @@ pub no-join : (ts : List ℕ) (j : ℕ) → (kindAt ts j ≡ 3 → ⊥) → isJo
 unfolding rowAt rowBy
 no-join ts j h = let k : ℕ = kindAt ts j in rw (ne-eqb (kindAt ts j) 3 h) (other-kinds (secondAt ts j) (getD ts (j * 4 + 2) 0) (getD ts (j * 4 + 3) 0) (eqb k 0) (eqb k 1) (eqb k 2) (eqb k 4) (eqb k 5))
 
--- and no other row is
-pub is-join : (ts : List ℕ) (j : ℕ) → isJoin (rowAt ts j) ≡ true → kindAt ts j ≡ 3
-is-join ts j e = by-cases (ℕ-discrete (kindAt ts j) 3) (λ h. h) (λ h. absurd (true≢false (sym e ∙ no-join ts j h)))
-
 -- a JOIN row of a judged table, and the table of masks
 module _ (t : Table) (g : Judged t) (masks : List ℕ) (f : Filled 0 (maskAt (t .conditions)) (t .k) masks) (j : ℕ) (h : j < t .n) (is : kindAt (t .terms) j ≡ 3) (row mask : ℕ) (at-row : row ≡ secondAt (t .terms) j) (at-mask : mask ≡ getD masks (secondAt (t .terms) j) 0) where
   pub narrow : Narrow (t .m) (t .conditions) row mask
@@ -84,21 +78,37 @@ module _ (t : Table) (j : ℕ) where
   unfolding sound
   sound-other h = rw (no-join (t .terms) j h) refl
 
-  pub sound-join : kindAt (t .terms) j ≡ 3 → (row : ℕ) → row ≡ secondAt (t .terms) j → not (failsIn t row) ≡ sound t j
-  unfolding sound
-  sound-join h row at-row = rw (join-is (t .terms) j h, join-condition (t .terms) j h, at-row) refl
+  -- the failure of a row, by its bytes
+  pub failure-other : (kindAt (t .terms) j ≡ 3 → ⊥) → None ≡ failureIn t j
+  unfolding failureIn
+  failure-other h = rw (no-join (t .terms) j h) refl
 
-  pub sound-tried : (seen : List ℕ) → Tried t seen → kindAt (t .terms) j ≡ 3 → getD seen (secondAt (t .terms) j) 0 ≡ 1 → true ≡ sound t j
+  pub failure-join : kindAt (t .terms) j ≡ 3 → (row : ℕ) → row ≡ secondAt (t .terms) j → failureOf (t .evaluation) (t .m) (t .conditions) row ≡ failureIn t j
+  unfolding failureIn
+  failure-join h row at-row = rw (join-is (t .terms) j h, join-condition (t .terms) j h, at-row) refl
+
+  pub failure-tried : (seen : List ℕ) → Tried t seen → kindAt (t .terms) j ≡ 3 → getD seen (secondAt (t .terms) j) 0 ≡ 1 → None ≡ failureIn t j
   unfolding Tried
-  sound-tried seen s h e = ap not (sym (s (secondAt (t .terms) j) e)) ∙ sound-join h (secondAt (t .terms) j) refl
+  failure-tried seen s h e = failure-none (t .evaluation) (t .m) (t .conditions) (secondAt (t .terms) j) (ap not (s (secondAt (t .terms) j) e)) ∙ failure-join h (secondAt (t .terms) j) refl
 
-  pub unsound-join : sound t j ≡ false → isJoin (rowAt (t .terms) j) ≡ true
-  unfolding sound
-  unsound-join e = and-l _ (failsIn t (conditionOf (rowAt (t .terms) j))) (not-false _ e)
+  -- a row without a failure is sound; one with a failure is not, and the failure is that of the verdict
+  pub none-sound : failureIn t j ≡ None → sound t j ≡ true
+  unfolding failureIn failureOf sound
+  none-sound e = at (isJoin (rowAt (t .terms) j)) (failsIn t (conditionOf (rowAt (t .terms) j))) e
+    where
+      at : (b f : Bool) → cond b (cond f (At (numberAt (t .evaluation) (t .m) (t .conditions) (conditionOf (rowAt (t .terms) j))) (linkAt (t .evaluation) (t .m) (t .conditions) (conditionOf (rowAt (t .terms) j)))) None) None ≡ None → not (b && f) ≡ true
+      at true true e = absurd (let z : _≡_ {A = ℕ} 0 1 = cc in omega arith)
+      at true false e = refl
+      at false f e = refl
 
-  pub fail-is : (x l row : ℕ) → kindAt (t .terms) j ≡ 3 → row ≡ secondAt (t .terms) j → x ≡ numberAt (t .evaluation) (t .m) (t .conditions) row → l ≡ offender (evalOf (t .evaluation) (t .conditions) row) (t .m) (assign (linksAt (t .m) (t .conditions) row) x) → Fail j x l ≡ failAt t j
-  unfolding failAt
-  fail-is x l row h at-row p q = rw (join-condition (t .terms) j h, ← at-row) (ap₂ (Fail j) p (link-is _ _ _ _ x l p q))
+  pub some-unsound : (x l : ℕ) → failureIn t j ≡ At x l → (sound t j ≡ false) × (Fail j x l ≡ failAt t j)
+  unfolding failureIn failureOf sound failAt
+  some-unsound x l e = at (isJoin (rowAt (t .terms) j)) (failsIn t (conditionOf (rowAt (t .terms) j))) e
+    where
+      at : (b f : Bool) → cond b (cond f (At (numberAt (t .evaluation) (t .m) (t .conditions) (conditionOf (rowAt (t .terms) j))) (linkAt (t .evaluation) (t .m) (t .conditions) (conditionOf (rowAt (t .terms) j)))) None) None ≡ At x l → (not (b && f) ≡ false) × (Fail j x l ≡ Fail j (numberAt (t .evaluation) (t .m) (t .conditions) (conditionOf (rowAt (t .terms) j))) (linkAt (t .evaluation) (t .m) (t .conditions) (conditionOf (rowAt (t .terms) j))))
+      at true true e = (refl, cc)
+      at true false e = absurd (let z : _≡_ {A = ℕ} 0 1 = cc in omega arith)
+      at false f e = absurd (let z : _≡_ {A = ℕ} 0 1 = cc in omega arith)
 
   pub verdict-fail : j < t .n → j ≡ failing t → failAt t j ≡ verdictOf t
   unfolding verdictOf

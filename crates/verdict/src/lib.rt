@@ -1,13 +1,13 @@
 // The verdict of a table. Each condition row is tried once; number and link are searched for one JOIN only.
 ghost use mathlib.Core.Path.{_≡_};
-ghost use mathlib.Core.Bool.{true};
 ghost use Prim.Native.Nat.{_+_, _*_, _<_, _≤_};
 ghost use lib.ListN.{length, getD};
 ghost use Rattle.laws.specs.Up.{Filled};
 ghost use Rattle.sheet.specs.Table.{tableOf, rowAt};
 ghost use Rattle.reach.specs.Masks.{maskAt};
-ghost use Rattle.verdict.specs.Verdict.{isJoin, sound, failAt, verdictOf, Judged};
-ghost use Rattle.verdict.specs.Tried.{Tried, marked};
+ghost use Rattle.verdict.specs.Verdict.{verdictOf, Judged};
+ghost use Rattle.verdict.specs.Tried.{Tried, failureIn, marked};
+use failure::Failure;
 use sheet::Head;
 
 pub enum Verdict {
@@ -43,40 +43,22 @@ fn mark(seen: &mut [u8; 256], ts: &[u8], j: usize)
     }
 }
 
-// Row j is no JOIN whose condition fails.
-fn is_sound(h: Head, ts: &[u8], cs: &[u8], masks: &[u64; 256], seen: &[u8; 256], j: usize) -> bool
+// The failure of row j; none where it is no JOIN, or its condition row has been tried.
+fn of_row(h: Head, ts: &[u8], cs: &[u8], masks: &[u64; 256], seen: &[u8; 256], j: usize) -> Failure
     requires { ⌜ (Judged (tableOf h (now ts) (now cs))) × (Filled 0 (maskAt (now cs)) (h .k) (now masks) × ((j < h .n) × Tried (tableOf h (now ts) (now cs)) (now seen))) ⌝ }
-    ensures { λ r. ⌜ r ≡ sound (tableOf h (now (ts .entry)) (now (cs .entry))) j ⌝ }
+    ensures { λ r. ⌜ r ≡ failureIn (tableOf h (now (ts .entry)) (now (cs .entry))) j ⌝ }
 {
     let kind = ts[j * 4];
     if kind != 3 {
-        return true;
+        return Failure::None;
     }
     let c = ts[j * 4 + 1];
     let old = tried(seen, c);
     if old == 1 {
-        return true;
+        return Failure::None;
     }
     let mask = reach::mask_of(masks, c);
-    let passed = failure::passes(h.evaluation, h.m, cs, wide(c), mask);
-    passed
-}
-
-// The failure of JOIN row j.
-fn fail(h: Head, ts: &[u8], cs: &[u8], masks: &[u64; 256], j: usize) -> Verdict
-    requires { ⌜ (Judged (tableOf h (now ts) (now cs))) × (Filled 0 (maskAt (now cs)) (h .k) (now masks) × ((j < h .n) × (isJoin (rowAt (now ts) j) ≡ true))) ⌝ }
-    ensures { λ r. ⌜ r ≡ failAt (tableOf h (now (ts .entry)) (now (cs .entry))) j ⌝ }
-{
-    let c = ts[j * 4 + 1];
-    let mask = reach::mask_of(masks, c);
-    let row = wide(c);
-    let x = failure::number(h.evaluation, h.m, cs, row, mask);
-    let l = failure::link(h.evaluation, h.m, cs, row, mask, x);
-    Verdict::Fail {
-        row: j,
-        number: x,
-        link: l,
-    }
+    failure::of_condition(h.evaluation, h.m, cs, wide(c), mask)
 }
 
 // The verdict of a table that is judged.
@@ -89,11 +71,19 @@ pub fn give(h: Head, ts: &[u8], cs: &[u8]) -> Verdict
     let mut seen = [0; 256];
     let mut j = 0;
     while j < n {
-        if !is_sound(h, ts, cs, &masks, &seen, j) {
-            return fail(h, ts, cs, &masks, j);
+        match of_row(h, ts, cs, &masks, &seen, j) {
+            Failure::At { number, link } => {
+                return Verdict::Fail {
+                    row: j,
+                    number,
+                    link,
+                };
+            }
+            Failure::None => {
+                mark(&mut seen, ts, j);
+                j += 1;
+            }
         }
-        mark(&mut seen, ts, j);
-        j += 1;
     }
     Verdict::Pass
 }

@@ -5,7 +5,7 @@ use Rattle.failure.proofs.of_condition.Statement.{statement}
 use Rattle.failure.proofs.of_condition.Tie as tie
 use Rattle.failure.proofs.of_condition.Reads as reads
 use Rattle.failure.proofs.of_condition.Lts as lts
-use Rattle.failure.proofs.link.Reads as link-reads
+use Rattle.failure.proofs.false_link.Reads as false-link-reads
 use Rattle.failure.proofs.number.Reads as number-reads
 use Rattle.failure.proofs.passes.Reads as passes-reads
 
@@ -22,13 +22,13 @@ number-requires : tie.Need-number-requires
 number-requires c κs = search needs
 
 -- src/lib.rt:203:9
-link-requires : tie.Need-link-requires
-link-requires c κs = search needs
+false-link-requires : tie.Need-false-link-requires
+false-link-requires c κs = search needs
 
 -- src/lib.rt:195:1
 returns-2 : tie.Need-returns-2
-returns-2 c = failure-at _ _ _ _ _ _ (sym (c .before .before .before .passes .ensures) ∙ c .before .before .if1 .left) (c .before .number .ensures) (c .link .ensures)
+returns-2 c = failure-at _ _ _ _ (c .before .before .before .before .before .pre) _ _ _ (sym (c .before .before .before .passes .ensures) ∙ c .before .before .if1 .left) (c .before .number .ensures) (c .false-link .ensures)
 
 pub of-condition-spec : {M : Type 1} → statement M
 of-condition-spec =
-    tie.close (tie.spec passes-requires returns number-requires link-requires returns-2)
+    tie.close (tie.spec passes-requires returns number-requires false-link-requires returns-2)

@@ -13,11 +13,13 @@ is-lazy-requires c κs = search needs
 
 -- src/lib.rt:39:9
 returns : tie.Need-returns
-returns c = and-lazy _ (lazy-is _ (sym (c .before .before .before .before .before .is-lazy .ensures) ∙ c .before .before .before .before .if1 .taken)) (c .before .before .before .before .before .before .args .a) (c .before .before .before .before .before .before .args .b)
+returns c = let branch = c .before .before .before .before .before .before .before .before in
+    and-lazy _ (lazy-is _ (sym (branch .before .is-lazy .ensures) ∙ branch .if1 .taken)) (branch .before .before .args .a) (branch .before .before .args .b)
 
 -- src/lib.rt:35:1
 returns-2 : tie.Need-returns-2
-returns-2 c = and-strict _ (strict-is _ (sym (c .before .before .before .before .before .before .before .is-lazy .ensures) ∙ c .before .before .before .before .before .before .if1 .left)) (c .before .before .before .before .before .before .before .before .args .a) (c .before .before .before .before .before .before .before .before .args .b)
+returns-2 c = let branch = c .before .before .before .before .before .before .before .before in
+    and-strict _ (strict-is _ (sym (branch .before .is-lazy .ensures) ∙ branch .if1 .left)) (branch .before .before .args .a) (branch .before .before .args .b)
 
 pub and-spec : {M : Type 1} → statement M
 and-spec = tie.close (tie.spec is-lazy-requires returns returns-2)

@@ -13,11 +13,13 @@ is-lazy-requires c κs = search needs
 
 -- src/lib.rt:54:9
 returns : tie.Need-returns
-returns c = or-lazy _ (lazy-is _ (sym (c .before .before .before .before .before .is-lazy .ensures) ∙ c .before .before .before .before .if1 .taken)) (c .before .before .before .before .before .before .args .a) (c .before .before .before .before .before .before .args .b)
+returns c = let branch = c .before .before .before .before .before .before .before .before in
+    or-lazy _ (lazy-is _ (sym (branch .before .is-lazy .ensures) ∙ branch .if1 .taken)) (branch .before .before .args .a) (branch .before .before .args .b)
 
 -- src/lib.rt:50:1
 returns-2 : tie.Need-returns-2
-returns-2 c = or-strict _ (strict-is _ (sym (c .before .before .before .before .before .before .before .is-lazy .ensures) ∙ c .before .before .before .before .before .before .if1 .left)) (c .before .before .before .before .before .before .before .before .args .a) (c .before .before .before .before .before .before .before .before .args .b)
+returns-2 c = let branch = c .before .before .before .before .before .before .before .before in
+    or-strict _ (strict-is _ (sym (branch .before .is-lazy .ensures) ∙ branch .if1 .left)) (branch .before .before .args .a) (branch .before .before .args .b)
 
 pub or-spec : {M : Type 1} → statement M
 or-spec = tie.close (tie.spec is-lazy-requires returns returns-2)

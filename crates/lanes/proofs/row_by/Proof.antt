@@ -47,29 +47,29 @@ constant-requires-3 c κs = search needs
 -- src/lib.rt:120:1
 returns : tie.Need-returns
 unfolding conditionRowBy
-returns c = rw (c .before .match .keys1) (stepped-false _ _ _ _ _ _ (c .constant .ensures))
+returns c = rw (c .before .match .keys1) (stepped-false _ _ _ _ _ _ _ (c .constant .ensures))
 
 -- src/lib.rt:120:1
 returns-2 : tie.Need-returns-2
 unfolding conditionRowBy
-returns-2 c = rw (c .before .match .keys2) (stepped-true _ _ _ _ _ _ (c .constant2 .ensures))
+returns-2 c = rw (c .before .match .keys2) (stepped-true _ _ _ _ _ _ _ (c .constant2 .ensures))
 
 -- src/lib.rt:120:1
 returns-3 : tie.Need-returns-3
 unfolding conditionRowBy
-returns-3 c = rw (c .before .match .keys3) (stepped-link _ _ _ _ _ _ _ (c .of-link .ensures))
+returns-3 c = rw (c .before .match .keys3) (stepped-link _ _ _ _ _ _ _ _ (c .of-link .ensures))
 
 -- src/lib.rt:120:1
 returns-4 : tie.Need-returns-4
 unfolding conditionRowBy
 returns-4 c = let m = c .before .before .before .before .match .rest in
-    rw (ne-eqb _ 0 (m .0 .0 .1), ne-eqb _ 1 (m .0 .1), ne-eqb _ 2 (m .1), lt-ltb _ 7 (c .before .before .before .if1 .taken)) (stepped-op _ _ _ _ _ _ _ (c .before .before .before .before .before .args .a) (c .before .before .before .before .before .args .b) _ _ (omega arith) (omega arith) (c .before .before .of-row .ensures) (c .before .of-row2 .ensures) (c .operate .ensures))
+    rw (ne-eqb _ 0 (m .0 .0 .1), ne-eqb _ 1 (m .0 .1), ne-eqb _ 2 (m .1), lt-ltb _ 7 (c .before .before .before .if1 .taken)) (stepped-op _ _ _ _ _ _ _ _ (c .before .before .before .before .before .args .a) (c .before .before .before .before .before .args .b) _ _ (omega arith) (omega arith) (c .before .before .of-row .ensures) (c .before .of-row2 .ensures) (c .operate .ensures))
 
 -- src/lib.rt:120:1
 returns-5 : tie.Need-returns-5
 unfolding conditionRowBy
 returns-5 c = let m = c .before .before .match .rest in
-    rw (ne-eqb _ 0 (m .0 .0 .1), ne-eqb _ 1 (m .0 .1), ne-eqb _ 2 (m .1), le-ltb _ 7 (c .before .if1 .left)) (stepped-false _ _ _ _ _ _ (c .constant3 .ensures))
+    rw (ne-eqb _ 0 (m .0 .0 .1), ne-eqb _ 1 (m .0 .1), ne-eqb _ 2 (m .1), le-ltb _ 7 (c .before .if1 .left)) (stepped-false _ _ _ _ _ _ _ (c .constant3 .ensures))
 
 pub row-by-spec : {M : Type 1} → statement M
 row-by-spec =
