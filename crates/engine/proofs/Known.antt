@@ -15,7 +15,6 @@ use Rattle.laws.proofs.Tests.{and-false}
 use Rattle.laws.specs.Listed.{listed, written}
 use Rattle.laws.proofs.Listed.{listed-same}
 use Rattle.laws.specs.Up.{Filled}
-use Rattle.laws.proofs.Up.{below-in}
 use Rattle.calculus.specs.Process.{act, out, join, pick, flow}
 use Rattle.calculus.specs.Status.{Value, Unset, False, True, Links}
 use Rattle.calculus.specs.Places.{Turn, takes, drops, cleans}
@@ -27,8 +26,8 @@ use Rattle.steps.specs.InFront.{waiting, waitingStep, reached, inFront}
 use Rattle.sheet.specs.Table.{Table, rowBy, rowAt, evalIn}
 use Rattle.sheet.specs.Accepted.{WellFormed}
 use Rattle.sheet.proofs.Accepted.{source-out}
-use Rattle.evaluate.specs.Values.{Evaluated}
-use Rattle.evaluate.proofs.Rows.{getD-any}
+use Rattle.evaluate.specs.Values.{Evaluated, valueIn}
+use Rattle.evaluate.proofs.Rows.{evaluated-at}
 use Rattle.state.specs.declared.State.{State}
 use Rattle.state.specs.declared.StepKind.{StepKind}
 use Rattle.state.specs.declared.StepKind.the-variants.{Act, Set, Open, Clean, Refused}
@@ -105,20 +104,19 @@ asked-reached : (node : ℕ → Row) (μ : Marks) (j : ℕ) → askedAt 0 node �
 unfolding askedAt nextOf nextBy topOf reached
 asked-reached node μ j = refl
 
-value-known : (t : Table) (s : State) (vals : List ℕ) (q : ℕ) → t .k ≤ 256 → q < t .k → Evaluated (t .evaluation) (t .conditions) (linksOf s) (t .k) vals → getD vals q 0 ≡ digit (evalIn t q (linksOf s))
-unfolding Evaluated Filled
-value-known t s vals q few h e = let l : length vals ≡ 256 = e .0 in getD-any vals q 0 1 (omega arith) ∙ (e .1 q ∙ below-in 1 _ (t .k) q h)
-
 module _ (t : Table) (w : WellFormed t) (s : State) (seen vals : List ℕ) (k : Knows t s seen vals) where
   -- the step from the tables
-  pub kind-known : (r : ℕ) → kindFrom (t .terms) (t .n) (s .mode) (marksOf s) (λ j. eqb (getD seen j 0) 1) (λ q. getD vals q 0) r ≡ kindAt t s r
+  value-known : (q : ℕ) → q < t .k → valueIn vals q ≡ digit (evalIn t q (linksOf s))
+  value-known q h = let few : t .k ≤ 256 = w .few-conditions in evaluated-at (t .evaluation) (t .conditions) (linksOf s) (t .k) vals (k .vals-known) q h (omega arith)
+
+  pub kind-known : (r : ℕ) → kindFrom (t .terms) (t .n) (s .mode) (marksOf s) (λ j. eqb (getD seen j 0) 1) (valueIn vals) r ≡ kindAt t s r
   unfolding kindFrom
   kind-known r =
       by-cases (decLt r (t .n))
-      (λ (h : r < t .n). ap (λ (b : Bool). cond (ltb r (t .n) && b && waitingStep (nodes t r) (marksOf s r)) (rowKind r (s .mode) (nodes t r) (λ q. getD vals q 0)) (Refused 11 r)) (ap (λ (x : ℕ). eqb x 1) (k .seen-shows .at r h) ∙ (bit-one _ ∙ asked-reached (nodes t) (marksOf s) r))
-      ∙ (ap (λ (x : StepKind). cond (ltb r (t .n) && reached (nodes t) (marksOf s) r && waitingStep (nodes t r) (marksOf s r)) x (Refused 11 r)) (same-kind r (s .mode) (nodes t r) (λ q. getD vals q 0) (λ q. digit (evalIn t q (linksOf s))) (λ q c e. value-known t s vals q (w .few-conditions) (w .joins r q c h e) (k .vals-known)))
+      (λ (h : r < t .n). ap (λ (b : Bool). cond (ltb r (t .n) && b && waitingStep (nodes t r) (marksOf s r)) (rowKind r (s .mode) (nodes t r) (valueIn vals)) (Refused 11 r)) (ap (λ (x : ℕ). eqb x 1) (k .seen-shows .at r h) ∙ (bit-one _ ∙ asked-reached (nodes t) (marksOf s) r))
+      ∙ (ap (λ (x : StepKind). cond (ltb r (t .n) && reached (nodes t) (marksOf s) r && waitingStep (nodes t r) (marksOf s r)) x (Refused 11 r)) (same-kind r (s .mode) (nodes t r) (valueIn vals) (λ q. digit (evalIn t q (linksOf s))) (λ q c e. value-known q (w .joins r q c h e)))
       ∙ sym (kind-from t s r)))
-      (λ (h : r < t .n → ⊥). sym (from-none (t .terms) (t .n) (s .mode) (marksOf s) (λ j. eqb (getD seen j 0) 1) (λ q. getD vals q 0) r (omega arith)) ∙ (from-none (t .terms) (t .n) (s .mode) (marksOf s) (reached (nodes t) (marksOf s)) (λ q. digit (evalIn t q (linksOf s))) r (omega arith) ∙ sym (kind-from t s r)))
+      (λ (h : r < t .n → ⊥). sym (from-none (t .terms) (t .n) (s .mode) (marksOf s) (λ j. eqb (getD seen j 0) 1) (valueIn vals) r (omega arith)) ∙ (from-none (t .terms) (t .n) (s .mode) (marksOf s) (reached (nodes t) (marksOf s)) (λ q. digit (evalIn t q (linksOf s))) r (omega arith) ∙ sym (kind-from t s r)))
 
 -- by the bytes of the row
 pub kind-1 : (kind a b c r mode : ℕ) (f : ℕ → ℕ) → kind ≡ 1 → Act a ≡ rowKind r mode (rowBy kind a b c) f

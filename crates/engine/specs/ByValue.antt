@@ -11,6 +11,7 @@ use Rattle.steps.specs.Rows.{Row, NIL, PREFIX, BRANCH}
 use Rattle.steps.specs.Marks.{Marks}
 use Rattle.steps.specs.InFront.{waitingStep}
 use Rattle.sheet.specs.Table.{Table, rowAt}
+use Rattle.evaluate.specs.Values.{valueIn}
 use Rattle.state.specs.declared.State.{State}
 use Rattle.state.specs.declared.StepKind.{StepKind}
 use Rattle.state.specs.declared.StepKind.the-variants.{Act, Set, Open, Clean, Refused}
@@ -42,7 +43,7 @@ isStep (Refused a b) = false
 
 -- the row has a step, from the tables of marks, of what is reached, of values
 unfoldable pub stepFrom : List ℕ → ℕ → ℕ → List ℕ → List ℕ → List ℕ → ℕ → Bool
-stepFrom ts n mode marks seen vals r = isStep (kindFrom ts n mode (λ k. getD marks k 0) (λ k. eqb (getD seen k 0) 1) (λ q. getD vals q 0) r)
+stepFrom ts n mode marks seen vals r = isStep (kindFrom ts n mode (λ k. getD marks k 0) (λ k. eqb (getD seen k 0) 1) (valueIn vals) r)
 
 -- the kind that was taken, or 11 and the row; and the state after
 unfoldable pub takenAnswer : Table → State → ℕ → Stepped

@@ -8,8 +8,10 @@ ghost use Rattle.laws.specs.Tests.{bit};
 ghost use Rattle.laws.specs.Listed.{listed, written};
 ghost use Rattle.sheet.specs.Table.{tableOf, rowAt};
 ghost use Rattle.sheet.specs.Accepted.{WellFormed};
+ghost use Rattle.evaluate.specs.Values.{valueIn};
 ghost use Rattle.moves.specs.Steps.{kindAt, listedOf};
 ghost use Rattle.engine.specs.ByValue.{joinKind, rowKind, kindFrom, isStep, stepFrom, takenAnswer};
+use evaluate::Values;
 use sheet::Head;
 use state::State;
 use state::StepKind;
@@ -43,22 +45,16 @@ fn one(b: u8) -> u8
     0
 }
 
-fn value_at(vals: &[u8; 256], row: u8) -> u8
-    ensures { λ r. ⌜ r ≡ getD (now (vals .entry)) row 0 ⌝ }
-{
-    vals[row as usize]
-}
-
 // The step of a row in front.
-fn row_kind(ts: &[u8], row: usize, mode: u8, vals: &[u8; 256]) -> StepKind
+fn row_kind(ts: &[u8], row: usize, mode: u8, vals: &Values) -> StepKind
     requires { ⌜ row * 4 + 4 ≤ length (now ts) ⌝ }
-    ensures { λ r. ⌜ r ≡ rowKind row mode (rowAt (now (ts .entry)) row) (λ q. getD (now (vals .entry)) q 0) ⌝ }
+    ensures { λ r. ⌜ r ≡ rowKind row mode (rowAt (now (ts .entry)) row) (valueIn (now (vals .entry))) ⌝ }
 {
     let at = row * 4;
     match ts[at] {
         1 => StepKind::Act(ts[at + 1]),
         2 => StepKind::Set(ts[at + 1], one(ts[at + 2])),
-        3 => join_kind(row, mode, value_at(vals, ts[at + 1])),
+        3 => join_kind(row, mode, evaluate::value_in(vals, ts[at + 1])),
         _ => StepKind::Refused(11, row),
     }
 }
@@ -70,11 +66,11 @@ fn kind_from(
     mode: u8,
     marks: &[u8; 256],
     reached: &[u8; 256],
-    vals: &[u8; 256],
+    vals: &Values,
     row: usize,
 ) -> StepKind
     requires { ⌜ (n * 4 ≤ length (now ts)) × (n ≤ 256) ⌝ }
-    ensures { λ r. ⌜ r ≡ kindFrom (now (ts .entry)) n mode (λ k. getD (now (marks .entry)) k 0) (λ k. eqb (getD (now (reached .entry)) k 0) 1) (λ q. getD (now (vals .entry)) q 0) row ⌝ }
+    ensures { λ r. ⌜ r ≡ kindFrom (now (ts .entry)) n mode (λ k. getD (now (marks .entry)) k 0) (λ k. eqb (getD (now (reached .entry)) k 0) 1) (valueIn (now (vals .entry))) row ⌝ }
 {
     if n <= row {
         return StepKind::Refused(11, row);
@@ -150,7 +146,7 @@ fn has_step(
     mode: u8,
     marks: &[u8; 256],
     reached: &[u8; 256],
-    vals: &[u8; 256],
+    vals: &Values,
     row: usize,
 ) -> bool
     requires { ⌜ (n * 4 ≤ length (now ts)) × (n ≤ 256) ⌝ }
@@ -166,7 +162,7 @@ fn count(
     mode: u8,
     marks: &[u8; 256],
     reached: &[u8; 256],
-    vals: &[u8; 256],
+    vals: &Values,
 ) -> usize
     requires { ⌜ (n * 4 ≤ length (now ts)) × (n ≤ 256) ⌝ }
     ensures { λ r. ⌜ r ≡ length (listed (stepFrom (now (ts .entry)) n mode (now (marks .entry)) (now (reached .entry)) (now (vals .entry))) 0 n) ⌝ }
@@ -191,7 +187,7 @@ fn write(
     mode: u8,
     marks: &[u8; 256],
     reached: &[u8; 256],
-    vals: &[u8; 256],
+    vals: &Values,
     out: &mut [u8],
 )
     requires { ⌜ (n * 4 ≤ length (now ts)) × ((n ≤ 256) × (length (listed (stepFrom (now ts) n mode (now marks) (now reached) (now vals)) 0 n) ≤ length (now out))) ⌝ }
@@ -216,7 +212,7 @@ fn fill(
     mode: u8,
     marks: &[u8; 256],
     reached: &[u8; 256],
-    vals: &[u8; 256],
+    vals: &Values,
     out: &mut [u8],
 ) -> usize
     requires { ⌜ (n * 4 ≤ length (now ts)) × (n ≤ 256) ⌝ }

@@ -14,7 +14,7 @@ use Rattle.conditions.specs.ByRows.{valueBy}
 use Rattle.conditions.proofs.Numbers.{undigit-digit}
 use Rattle.conditions.proofs.ByRows.{value-at}
 use Rattle.sheet.specs.Table.{conditionRowAt, evaluationOf, evalOf}
-use Rattle.evaluate.specs.Values.{Evaluated}
+use Rattle.evaluate.specs.Values.{Evaluated, valueIn}
 
 -- an element that is there is the same whatever stands for one that is not
 pub getD-any : (t : List ℕ) (j d d′ : ℕ) → j < length t → getD t j d ≡ getD t j d′
@@ -52,6 +52,6 @@ module _ (e : ℕ) (cs : List ℕ) (v : Links) where
     unfolding Evaluated
     evaluated-more x h q = (length-set vals k x ∙ s .0, filled-more 1 numberAt k vals x (omega (arith, s .0)) (q ∙ ap digit (found k vals (s .1))) (s .1))
 
-    pub evaluated-at : (row : ℕ) → row < k → row < 256 → getD vals row 0 ≡ digit (evalOf e cs row v)
+    pub evaluated-at : (row : ℕ) → row < k → row < 256 → valueIn vals row ≡ digit (evalOf e cs row v)
     unfolding Evaluated
     evaluated-at row h g = getD-any vals row 0 1 (omega (arith, s .0)) ∙ filled-at 1 numberAt k vals row (s .1) h

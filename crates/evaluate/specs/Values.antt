@@ -18,6 +18,6 @@ linksIn s l = cond (ltb l 64) (undigit (getD s l 0)) Unset
 unfoldable pub Evaluated : ℕ → List ℕ → Links → ℕ → List ℕ → Type 0
 Evaluated e cs v k vals = (length vals ≡ 256) × Filled 1 (λ row. digit (evalOf e cs row v)) k vals
 
--- whatever the table was made from, the number is the value of the row there
-abbrev pub ValueIn : List ℕ → ℕ → ℕ → Type 0
-ValueIn vals row x = (e : ℕ) (cs : List ℕ) (v : Links) (k : ℕ) → Evaluated e cs v k vals → row < k → x ≡ digit (evalOf e cs row v)
+-- the value of a row, from the table
+abbrev pub valueIn : List ℕ → ℕ → ℕ
+valueIn vals row = getD vals row 0

@@ -6,7 +6,7 @@ ghost use Rattle.conditions.specs.Operators.{table};
 ghost use Rattle.conditions.specs.Numbers.{digit, undigit};
 ghost use Rattle.conditions.specs.ByRows.{strictly, operate, valueBy};
 ghost use Rattle.sheet.specs.Table.{operatorOf, conditionRowBy, conditionRowAt, lazyOf, evaluationOf, evalOf};
-ghost use Rattle.evaluate.specs.Values.{linksIn, Evaluated, ValueIn};
+ghost use Rattle.evaluate.specs.Values.{linksIn, Evaluated, valueIn};
 
 // One value a condition row.
 pub type Values = [u8; 256];
@@ -132,16 +132,7 @@ pub fn values(evaluation: u8, cs: &[u8], k: usize, links: &[u8; 64]) -> Values
 
 // The value of a row, from a table of values.
 pub fn value_in(vals: &Values, row: u8) -> u8
-    ensures { λ r. ⌜ ValueIn (now (vals .entry)) row r ⌝ }
+    ensures { λ r. ⌜ r ≡ valueIn (now (vals .entry)) row ⌝ }
 {
     vals[row as usize]
-}
-
-// The value of one row.
-pub fn value(evaluation: u8, cs: &[u8], row: usize, links: &[u8; 64]) -> u8
-    requires { ⌜ (row * 4 + 4 ≤ length (now cs)) × (row < 256) ⌝ }
-    ensures { λ r. ⌜ r ≡ digit (evalOf evaluation (now (cs .entry)) row (linksIn (now (links .entry)))) ⌝ }
-{
-    let vals = values(evaluation, cs, row + 1, links);
-    value_in(&vals, row as u8)
 }

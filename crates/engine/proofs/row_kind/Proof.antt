@@ -9,7 +9,7 @@ use Rattle.engine.proofs.row_kind.Reads as reads
 use Rattle.engine.proofs.row_kind.Lts as lts
 use Rattle.engine.proofs.join_kind.Reads as join-kind-reads
 use Rattle.engine.proofs.one.Reads as one-reads
-use Rattle.engine.proofs.value_at.Reads as value-at-reads
+use Rattle.evaluate.proofs.value_in.Reads as value-in-reads
 
 -- src/lib.rt:64:14
 mul-at : tie.Need-mul-at
@@ -48,16 +48,16 @@ one-requires : tie.Need-one-requires
 one-requires c κs = search needs
 
 -- src/lib.rt:68:53
-add-value-at : tie.Need-add-value-at
-add-value-at c = search needs
+add-value-in : tie.Need-add-value-in
+add-value-in c = search needs
 
 -- src/lib.rt:68:50
-shared-slice-read-value-at : tie.Need-shared-slice-read-value-at
-shared-slice-read-value-at c = search needs
+shared-slice-read-value-in : tie.Need-shared-slice-read-value-in
+shared-slice-read-value-in c = search needs
 
 -- src/lib.rt:68:35
-value-at-requires : tie.Need-value-at-requires
-value-at-requires c κs = search needs
+value-in-requires : tie.Need-value-in-requires
+value-in-requires c κs = search needs
 
 -- src/lib.rt:68:14
 join-kind-requires : tie.Need-join-kind-requires
@@ -76,7 +76,7 @@ returns-2 c = kind-2 _ _ _ _ _ _ _ _ (c .before .before .before .match .keys2) (
 -- src/lib.rt:60:1
 returns-3 : tie.Need-returns-3
 unfolding rowAt
-returns-3 c = c .join-kind .ensures ∙ kind-3 _ _ _ _ _ _ _ _ (c .before .before .before .match .keys3) (c .before .value-at .ensures)
+returns-3 c = c .join-kind .ensures ∙ kind-3 _ _ _ _ _ _ _ _ (c .before .before .before .match .keys3) (c .before .value-in .ensures)
 
 -- src/lib.rt:60:1
 returns-4 : tie.Need-returns-4
@@ -96,9 +96,9 @@ row-kind-spec =
     add-one
     shared-slice-read-one
     one-requires
-    add-value-at
-    shared-slice-read-value-at
-    value-at-requires
+    add-value-in
+    shared-slice-read-value-in
+    value-in-requires
     join-kind-requires
     returns
     returns-2
