@@ -4,7 +4,7 @@ ghost use Prim.Native.Nat.{_+_, _*_, _<_, _≤_};
 ghost use lib.ListN.{length};
 ghost use Rattle.calculus.specs.Status.{truth};
 ghost use Rattle.conditions.specs.Operators.{AND, OR, EQ, NE};
-ghost use Rattle.sheet.specs.Table.{operatorOf, conditionRowBy, conditionRowAt};
+ghost use Rattle.sheet.specs.Table.{conditionRowBy, conditionRowAt};
 ghost use Rattle.lanes.specs.Lanes.{Shows, lanesAt, linkLanes, Operated, Stepped, Valued};
 
 // The lanes that are true, those that are false, and those that keep their value with every false link unset. A lane that does not keep it is then unset.
@@ -88,18 +88,6 @@ fn differ(evaluation: u8, a: Lanes, b: Lanes) -> Lanes
     }
 }
 
-fn operate(evaluation: u8, o: u8, a: Lanes, b: Lanes) -> Lanes
-    requires { ⌜ o < 4 ⌝ }
-    ensures { λ r. ⌜ Operated evaluation (operatorOf o) a b r ⌝ }
-{
-    match o {
-        0 => and(evaluation, a, b),
-        1 => or(evaluation, a, b),
-        2 => equal(evaluation, a, b),
-        _ => differ(evaluation, a, b),
-    }
-}
-
 // What is kept of a link is what is true.
 fn of_link(lt: &[u64; 64], lf: &[u64; 64], l: u8) -> Lanes
     ensures { λ r. ⌜ r ≡ linkLanes (now (lt .entry)) (now (lf .entry)) l ⌝ }
@@ -143,22 +131,17 @@ fn row_by(
 ) -> Lanes
     ensures { λ r. ⌜ Stepped evaluation (conditionRowBy kind a b) (now (lt .entry)) (now (lf .entry)) (now (trues .entry)) (now (falses .entry)) (now (kept .entry)) r ⌝ }
 {
+    let x = of_row(trues, falses, kept, a);
+    let y = of_row(trues, falses, kept, b);
     match kind {
         0 => constant(false),
         1 => constant(true),
         2 => of_link(lt, lf, a),
-        _ => {
-            if kind < 7 {
-                operate(
-                    evaluation,
-                    kind - 3,
-                    of_row(trues, falses, kept, a),
-                    of_row(trues, falses, kept, b),
-                )
-            } else {
-                constant(false)
-            }
-        }
+        3 => and(evaluation, x, y),
+        4 => or(evaluation, x, y),
+        5 => equal(evaluation, x, y),
+        6 => differ(evaluation, x, y),
+        _ => constant(false),
     }
 }
 
