@@ -1,5 +1,5 @@
 // One call, or all but the call, for counting instructions: two runs that differ in the second letter differ by one call.
-// Standard input: r, j, w, v, s, l, k or t (read, judge, write, verdict, start, list, kind, step); 1 to make the call, 0 not to; the mode; the row asked for; the number of steps taken first, and their rows; the sheet. The answer is printed as three numbers of four hex digits, so that each costs the same.
+// Standard input: r, p, j, w, v, s, l, k or t (read, terms part, judge, write, verdict, start, list, kind, step); 1 to make the call, 0 not to; the mode; the row asked for; the number of steps taken first, and their rows; the sheet. The answer is printed as three numbers of four hex digits, so that each costs the same.
 use codec::SheetAnswer;
 use codec::SizeAnswer;
 use libc::STDIN_FILENO;
@@ -202,9 +202,28 @@ fn read(made: bool, s: &[u8]) -> Seen {
     }
 }
 
+// The same for a part.
+fn part(made: bool, s: &[u8]) -> Seen {
+    if made {
+        return Seen {
+            a: sheet_engine::terms_part(s).len(),
+            b: 0,
+            c: 0,
+        };
+    }
+    Seen {
+        a: s.len(),
+        b: 0,
+        c: 0,
+    }
+}
+
 fn run(call: u8, made: bool, mode: u8, row: u8, rows: &[u8], s: &[u8]) -> Seen {
     if call == b'r' {
         return read(made, s);
+    }
+    if call == b'p' {
+        return part(made, s);
     }
     match sheet_engine::read_sheet(s) {
         SheetAnswer::Sheet(h) => answer(
