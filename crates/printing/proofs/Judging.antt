@@ -93,9 +93,18 @@ module _ (s : List ℕ) (mode : ℕ) (rows : List ℕ) (a : SheetAnswer) (told :
 
 -- the input
 module _ (input : List ℕ) where
-  pub leading-cut : length input < 3 → refusedLine 1 0 ≡ printed input
+  pub whole-goes : 3 + sizeIn input ≤ length input → sheetLines (modeIn input) (sheetIn input) (rowsIn input) ≡ printed input
+  unfolding printed checked
+  whole-goes h =
+      let w : 3 ≤ length input = omega (arith, h) in
+      one-place-holds refusedLine (sheetLines (modeIn input) (sheetIn input) (rowsIn input)) (complete input) [] refl (rw (le-leb 3 (length input) w, le-leb (3 + sizeIn input) (length input) h) refl)
+
+  pub cut-refused : length input < 3 + sizeIn input → refusedLine 1 0 ≡ printed input
   unfolding printed
-  leading-cut h = one-place-fails refusedLine (sheetLines (modeIn input) (sheetIn input) (rowsIn input)) (complete input) [] (omega arith) (rw (lt-leb 3 (length input) h) refl)
+  cut-refused h = one-place-fails refusedLine (sheetLines (modeIn input) (sheetIn input) (rowsIn input)) (complete input) [] (omega arith) (rw (lt-leb (3 + sizeIn input) (length input) h) (and-false (leb 3 (length input))))
+
+  pub leading-cut : length input < 3 → refusedLine 1 0 ≡ printed input
+  leading-cut h = cut-refused (omega (arith, h))
 
   module _ (low high : ℕ) (first : low ≡ getD input 1 0) (second : high ≡ getD input 2 0) (leading : 3 ≤ length input) where
     abbrev size : ℕ
@@ -106,8 +115,7 @@ module _ (input : List ℕ) where
     size-is = rw (first, second) refl
 
     pub sheet-cut : length input - 3 < size → refusedLine 1 0 ≡ printed input
-    unfolding printed
-    sheet-cut h = let w : length input < 3 + sizeIn input = omega (arith, h, leading, size-is) in one-place-fails refusedLine (sheetLines (modeIn input) (sheetIn input) (rowsIn input)) (complete input) [] (omega arith) (rw (lt-leb (3 + sizeIn input) (length input) w) (and-false (leb 3 (length input))))
+    sheet-cut h = cut-refused (omega (arith, h, leading, size-is))
 
     sheet-part : take (3 + size - 3) (drop 3 input) ≡ sheetIn input
     unfolding sheetIn
@@ -118,7 +126,4 @@ module _ (input : List ℕ) where
     rows-part = take-all (length input - (3 + size)) (drop (3 + size) input) (let e = length-drop (3 + size) input in omega (arith, e)) ∙ ap (λ (x : ℕ). drop (3 + x) input) size-is
 
     pub input-goes : size ≤ length input - 3 → sheetLines (modeIn input) (take (3 + size - 3) (drop 3 input)) (take (length input - (3 + size)) (drop (3 + size) input)) ≡ printed input
-    unfolding printed checked
-    input-goes h =
-        let w : 3 + sizeIn input ≤ length input = omega (arith, h, leading, size-is) in
-        rw (sheet-part, rows-part) refl ∙ one-place-holds refusedLine (sheetLines (modeIn input) (sheetIn input) (rowsIn input)) (complete input) [] refl (rw (le-leb 3 (length input) leading, le-leb (3 + sizeIn input) (length input) w) refl)
+    input-goes h = rw (sheet-part, rows-part) (whole-goes (omega (arith, h, leading, size-is)))

@@ -1,3 +1,5 @@
 pub mod Runs
 pub mod Judging
 pub mod Room
+pub mod First
+pub mod Unique

@@ -115,7 +115,7 @@ steps-short t s (r ∷ rows) g = at (hasStep t s r) refl (λ e. steps-short t (s
     at true e more = let (R, h) = more e in (runs.take r e R, within _ _ (omega arith) (joined 74 (74 * length (taken R) + 5455) (step-short r (kindAt t s r)) h))
     at false e more = (over, within _ _ (omega arith) (joined 74 0 (step-short r (kindAt t s r)) (record { is = omega arith })))
 
-count-few : (p : ℕ → Bool) (n : ℕ) → count p n ≤ n
+pub count-few : (p : ℕ → Bool) (n : ℕ) → count p n ≤ n
 unfolding count sum
 count-few p zero = omega arith
 count-few p (suc n) = at (p n) (count-few p n)
@@ -134,13 +134,13 @@ run-short t mode rows e m =
     joined 76 24399 (verdict-short (verdictAnswer t)) (within (74 * length (taken R) + 5455) 24399 (omega (arith, l, c, formed g .few-terms)) h)
 
 -- a property of the refusals, and of what is answered where no check fails
-checked-all : {A : Type 0} (P : A → Type 0) (answer : ℕ → ℕ → A) (good : A) (cs : List Check) → ((n p : ℕ) → P (answer n p)) → (AllHold cs → P good) → P (checked answer good cs)
+pub checked-all : {A : Type 0} (P : A → Type 0) (answer : ℕ → ℕ → A) (good : A) (cs : List Check) → ((n p : ℕ) → P (answer n p)) → (AllHold cs → P good) → P (checked answer good cs)
 unfolding checked AllHold
 checked-all P answer good [] bad h = h tt
 checked-all P answer good (c ∷ cs) bad h =
     cond-cases P (ltb (placeOf c) (c .upto)) (λ e. bad (c .number) (placeOf c)) (λ e. checked-all P answer good cs bad (λ a. h (place-holds c (placeOf c) refl (ltb-false (placeOf c) (c .upto) e), a)))
 
-split : (cs ds : List Check) → AllHold (cs ++ ds) → AllHold cs × AllHold ds
+pub split : (cs ds : List Check) → AllHold (cs ++ ds) → AllHold cs × AllHold ds
 unfolding AllHold
 split [] ds h = (tt, h)
 split (c ∷ cs) ds h = let (a, b) = split cs ds (h .1) in ((h .0, a), b)
