@@ -10,7 +10,7 @@ use Rattle.sheet.specs.declared.Refusal.{Refusal}
 use Rattle.sheet.specs.Table.{Table}
 use Rattle.sheet.specs.Rules.{refuse}
 use Rattle.sheet.proofs.Accepted.{none-refused}
-use Rattle.sheet.proofs.Refusals.{numbered, refused-by, accepted-by}
+use Rattle.sheet.proofs.Refusals.{numbered, refused-by}
 use Rattle.state.specs.declared.State.{State}
 use Rattle.moves.specs.Steps.{modeOf, marksOf}
 use Rattle.moves.specs.Fits.{modeCheck, marksFit, linksFit, waitsFit, clearFit, fitChecks, Fits}
@@ -42,7 +42,3 @@ module _ {A : Type 0} (answer : ℕ → ℕ → A) (good : A) (m n : ℕ) (ts : 
   pub state-refused : (r .number ≡ 0 → ⊥) → answer (r .number) (r .place) ≡ checked answer good (stateChecks m n ts s)
   unfolding numbered
   state-refused h = rw told (refused-by answer good (stateChecks m n ts s) refl (λ e. h (rw told e)))
-
-  pub state-accepted : r .number ≡ 0 → good ≡ checked answer good (stateChecks m n ts s)
-  unfolding numbered
-  state-accepted e = accepted-by answer good (stateChecks m n ts s) refl (rw told at e)

@@ -10,6 +10,7 @@ pub mod Below
 pub mod Clear
 pub mod Small
 pub mod Fits
+pub mod Beyond
 pub mod Runs
 pub mod Kept
 pub mod Alike

@@ -1,18 +1,18 @@
 -- The first 4,096 bytes of the input decide what is printed: they hold the largest sheet and more rows than a run has steps. Assumes nothing.
 use mathlib.Core.Path.{_≡_, refl, sym, ap, _∙_}
-use mathlib.Core.Bool.{Bool, true, false, cond, _&&_}
+use mathlib.Core.Bool.{Bool, true, false, cond}
 use mathlib.Core.List.{List, [], _∷_, _++_}
 use mathlib.Core.Logic.{_⊎_, inl, inr, ⊎-elim, by-cases}
-use Prim.Native.Nat.{ℕ, zero, suc, _+_, _*_, _-_, _≤_, _<_}
+use Prim.Native.Nat.{ℕ, zero, suc, _+_, _≤_, _<_}
 use native.Mathlib.Omega.{arith}
-use native.Mathlib.Decide.{decLt, decLe}
-use lib.Dec.{ltb, leb}
+use native.Mathlib.Decide.{decLe}
+use lib.Dec.{leb}
 use lib.ListN.{length, length-append, length-drop, take, drop, getD, take-append-drop, List·getD-append}
 use lib.Seq.{length-take-le, take-all, take-append-le}
-use borrow.Author.Tests.{leb-true, lt-leb, ltb-false}
-use Rattle.laws.specs.Checks.{Check, placeOf, checked, AllHold}
-use Rattle.laws.proofs.Tests.{and-r, and-false, cond-cases}
-use Rattle.laws.proofs.Checks.{all-hold, place-holds}
+use borrow.Author.Tests.{leb-true, lt-leb}
+use Rattle.laws.specs.Checks.{AllHold}
+use Rattle.laws.proofs.Tests.{and-r, and-false}
+use Rattle.laws.proofs.Checks.{checked-good, all-hold}
 use Rattle.steps.specs.InFront.{waitingStep, waitingSteps}
 use Rattle.sheet.specs.declared.Refusal.{Refusal}
 use Rattle.sheet.specs.Table.{Table}
@@ -56,16 +56,6 @@ run-upto t mode xs ys e m h =
     absurd (omega (arith, l, c, p .1, h, formed g .few-terms)))
     (λ q. ap (λ (l : List ℕ). verdictLine (verdictAnswer t) ++ l) q)
     (steps-upto t (freshOf mode) xs ys g)
-
--- what is answered where no check fails decides the answer
-checked-good : {A : Type 0} (answer : ℕ → ℕ → A) (good good′ : A) (cs : List Check) → (AllHold cs → good ≡ good′) → checked answer good cs ≡ checked answer good′ cs
-unfolding checked AllHold
-checked-good answer good good′ [] h = h tt
-checked-good answer good good′ (c ∷ cs) h = at (ltb (placeOf c) (c .upto)) refl (λ e. checked-good answer good good′ cs (λ a. h (place-holds c (placeOf c) refl (ltb-false (placeOf c) (c .upto) e), a)))
-  where
-    at : (b : Bool) → ltb (placeOf c) (c .upto) ≡ b → (ltb (placeOf c) (c .upto) ≡ false → checked answer good cs ≡ checked answer good′ cs) → cond b (answer (c .number) (placeOf c)) (checked answer good cs) ≡ cond b (answer (c .number) (placeOf c)) (checked answer good′ cs)
-    at true e more = refl
-    at false e more = more e
 
 sheet-upto : (mode : ℕ) (s xs ys : List ℕ) → (length s ≤ 2066 → 256 < length xs) → sheetLines mode s (xs ++ ys) ≡ sheetLines mode s xs
 unfolding sheetLines AllHold refusalOf

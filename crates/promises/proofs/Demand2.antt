@@ -54,10 +54,11 @@ use Rattle.moves.proofs.Kept.{nothing-else as nothing-else-steps}
 use Rattle.engine.specs.declared.Stepped.{Stepped}
 use Rattle.engine.specs.ByValue.{takenAnswer}
 use Rattle.sheet_engine.specs.declared.VerdictAnswer.the-variants.{Pass, Fail}
-use Rattle.sheet_engine.specs.Answers.{verdictAnswer, callChecks, kindAnswer, notTaken, stepAnswer}
+use Rattle.sheet_engine.specs.Answers.{verdictAnswer, startAnswer, callChecks, listAnswer, listBuffer, kindAnswer, notTaken, stepAnswer}
 use Rattle.sheet_engine.specs.Values.{FailsAt}
+use Rattle.sheet_engine.proofs.Beyond.{cut-write-answer, cut-write-buffer, cut-verdict-answer, cut-start-answer, cut-list-answer, cut-list-buffer, cut-kind-answer, cut-step-answer}
 use Rattle.sheet_engine.proofs.Promises.{pass-answered, fail-answered, fail-values}
-use Rattle.promises.specs.Calls.{Accepted, freshIn, link, listedIn, listedRows, next, Allowed, Run, taken}
+use Rattle.promises.specs.Calls.{Accepted, SameAnswers, freshIn, link, listedIn, listedRows, next, Allowed, Run, taken}
 use Rattle.promises.proofs.Calls.{formed, one-source as one-source-in, kind-is, listed-is, rows-are, row-listed, ok-is, state-is, turned, taken-accepted, listed-accepted, taken-keeps, run-short}
 use Rattle.promises.proofs.Alike.{link-is}
 use Rattle.promises.proofs.Fresh.{fresh-accepted}
@@ -74,9 +75,24 @@ sheet-accepted s h = (
 pub table-accepted : (t : Table) → refusalOf t .number ≡ 0 → WellFormed t × SingleSource t × Narrow t
 table-accepted t e = let g = meets t e in (well-formed t g, single-source t g, narrow-joins t g)
 
--- "places beyond these are no part of it": tables that agree on n term rows and k condition rows are accepted or refused alike
-pub nothing-beyond : (t t′ : Table) → cut t ≡ cut t′ → refusalOf t ≡ refusalOf t′
-nothing-beyond = same-refusal
+-- "places beyond these are no part of it": every call answers alike for tables that agree on n term rows and k condition rows
+pub nothing-beyond : (t t′ : Table) → cut t ≡ cut t′ → SameAnswers t t′
+nothing-beyond t t′ e = record {
+  judged = same-refusal t t′ e;
+  verdict = both verdictAnswer cut-verdict-answer;
+  started = (λ mode. both (λ u. startAnswer u mode) (λ u. cut-start-answer u mode));
+  listed = (λ s lent. both (λ u. listAnswer u s lent) (λ u. cut-list-answer u s lent));
+  buffer = (λ s lent. both (λ u. listBuffer u s lent) (λ u. cut-list-buffer u s lent));
+  kind = (λ s row. both (λ u. kindAnswer u s row) (λ u. cut-kind-answer u s row));
+  stepped = (λ s row. both (λ u. stepAnswer u s row) (λ u. cut-step-answer u s row));
+}
+  where
+    both : {A : Type 0} (f : Table → A) → ((u : Table) → f u ≡ f (cut u)) → f t ≡ f t′
+    both f g = g t ∙ (ap f e ∙ sym (g t′))
+
+-- ... and writing
+pub nothing-beyond-written : (h : Head) (ts cs : List ℕ) → ((lent : ℕ) → writeOf h ts cs lent ≡ writeOf h (take (4 * h .n) ts) (take (4 * h .k) cs) lent) × ((out : List ℕ) → writtenOf h ts cs out ≡ writtenOf h (take (4 * h .n) ts) (take (4 * h .k) cs) out)
+nothing-beyond-written h ts cs = (cut-write-answer h ts cs, cut-write-buffer h ts cs)
 
 -- "Reading an accepted sheet and writing it again gives its bytes"
 pub read-then-write : (s : List ℕ) (h : Head) → ((i : ℕ) → getD s i 0 < 256) → readOf s ≡ sheet.Sheet h → (out : List ℕ) → length s ≤ length out → (writeOf h (partOf s (termsOf s)) (partOf s (conditionsOf s)) (length out) ≡ size.Size (length s)) × (writtenOf h (partOf s (termsOf s)) (partOf s (conditionsOf s)) out ≡ s ++ drop (length s) out)

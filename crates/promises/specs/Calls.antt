@@ -16,7 +16,7 @@ use Rattle.state.specs.declared.State.{State}
 use Rattle.moves.specs.Steps.{modeOf, linksOf, Sized, leftIn}
 use Rattle.moves.specs.Fits.{Fits}
 use Rattle.moves.specs.Runs.{Taken}
-use Rattle.sheet_engine.specs.Answers.{startAnswer, listAnswer, listBuffer, kindAnswer, stepAnswer}
+use Rattle.sheet_engine.specs.Answers.{verdictAnswer, startAnswer, listAnswer, listBuffer, kindAnswer, stepAnswer}
 
 -- A table and a state that a call with a state does not refuse: neither 1 to 8, nor 9, nor 10. Of the right size is every state of the program.
 pub record Accepted (t : Table) (s : State) : Type 0 where
@@ -24,6 +24,16 @@ pub record Accepted (t : Table) (s : State) : Type 0 where
   pub mode : s .mode ≤ 1
   pub fits : Fits t s
   pub sized : Sized s
+
+-- Every call answers alike for two tables.
+pub record SameAnswers (t t′ : Table) : Type 0 where
+  pub judged : refusalOf t ≡ refusalOf t′
+  pub verdict : verdictAnswer t ≡ verdictAnswer t′
+  pub started : (mode : ℕ) → startAnswer t mode ≡ startAnswer t′ mode
+  pub listed : (s : State) (lent : ℕ) → listAnswer t s lent ≡ listAnswer t′ s lent
+  pub buffer : (s : State) (lent : List ℕ) → listBuffer t s lent ≡ listBuffer t′ s lent
+  pub kind : (s : State) (row : ℕ) → kindAnswer t s row ≡ kindAnswer t′ s row
+  pub stepped : (s : State) (row : ℕ) → stepAnswer t s row ≡ stepAnswer t′ s row
 
 -- "started fresh": the state that `start` hands out
 abbrev pub freshIn : Table → ℕ → State

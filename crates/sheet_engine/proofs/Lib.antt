@@ -3,3 +3,4 @@ pub mod Promises
 pub mod Unique
 pub mod Steps
 pub mod Values
+pub mod Beyond

@@ -22,7 +22,7 @@ use Rattle.verdict.specs.declared.Verdict.the-variants.{Pass, Fail}
 use Rattle.verdict.specs.Verdict.{isJoinPrefix, isJoin, conditionOfPrefix, conditionOf, failsIn, sound, failing, failAt, verdictOf, Judged}
 use Rattle.verdict.proofs.Joins.{kindAt, secondAt, join-row, sound-other, verdict-fail, verdict-pass}
 
-join-of : (N : Row) → isJoin N ≡ true → (d : ℕ) × (N ≡ PREFIX (join (conditionOf N)) d)
+pub join-of : (N : Row) → isJoin N ≡ true → (d : ℕ) × (N ≡ PREFIX (join (conditionOf N)) d)
 unfolding isJoin isJoinPrefix conditionOf conditionOfPrefix
 join-of NIL e = absurd (true≢false (sym e))
 join-of (PREFIX (act a) d) e = absurd (true≢false (sym e))
