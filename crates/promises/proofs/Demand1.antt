@@ -44,7 +44,7 @@ use Rattle.promises.specs.Contracts.{AsksNothing}
 use Rattle.promises.specs.Refused.{Answered, readChecks}
 use Rattle.promises.proofs.Refused.{answered, both-answered, sheet-answered, kind-answered, step-answered}
 -- ... each answer once more by document 01's number and values, where a refusal has 0 in all other places; and that no second answer fits the contract of a call
-pub use Rattle.sheet_engine.proofs.Values.{read-answers, write-answers, list-answers, kind-answers, step-answers}
+pub use Rattle.sheet_engine.proofs.Values.{read-answers, write-answers, verdict-answers, list-answers, kind-answers, step-answers}
 pub use Rattle.sheet_engine.proofs.Unique.{read-sheet-one, settings-part-one, terms-part-one, conditions-part-one, judge-table-one, write-sheet-one, give-verdict-one, start-one, list-steps-one, step-kind-one, take-step-one, step-in-place-one}
 
 -- "Every public call ends": each meets its contract, and a contract is met only by code that ends.

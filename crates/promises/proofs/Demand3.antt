@@ -1,6 +1,6 @@
 -- DEMAND 3, over runs of the calls: the rows are those that `list_steps` lists, the kinds and the states those that `take_step` answers. Assumes nothing.
 use Prim.Native.Nat.{ℕ, _≤_}
-use mathlib.Core.Path.{_≡_, _∙_, ap}
+use mathlib.Core.Path.{_≡_, refl, sym, _∙_, ap}
 use mathlib.Core.Logic.{_⊎_}
 use native.Mathlib.Omega.{arith}
 use Rattle.sheet.specs.Table.{Table}
@@ -8,26 +8,29 @@ use Rattle.state.specs.declared.State.{State}
 use Rattle.state.specs.State.{freshOf}
 use Rattle.moves.specs.Steps.{Sized}
 use Rattle.moves.specs.Runs.{struck, rowsOf}
+use Rattle.moves.proofs.Runs.{plain-run}
 use Rattle.sheet_engine.specs.declared.VerdictAnswer.the-variants.{Pass}
 use Rattle.sheet_engine.specs.Answers.{verdictAnswer, startAnswer, started}
 use Rattle.sheet_engine.proofs.Promises.{pass-demand-3}
 use Rattle.promises.specs.Calls.{freshIn, link, listedSteps, Run, taken, last}
-use Rattle.promises.proofs.Calls.{run-sized}
+use Rattle.promises.proofs.Calls.{formed, run-sized}
 use Rattle.promises.proofs.Alike.{same-listed, links-below, link-stays}
-use Rattle.promises.proofs.Fresh.{is-started, begun, run-of, passed, ends-accepted, ends-alike}
+use Rattle.promises.proofs.Fresh.{fresh-state, is-started, begun, run-of, passed, ends-accepted, ends-alike}
 
 -- "Take a sheet that is accepted and whose verdict is "pass", started fresh with cleaning and without": mode 1 is with cleaning, mode 0 without.
 module _ (t : Table) (pass : verdictAnswer t ≡ Pass) where
   pub both-start : (mode : ℕ) → mode ≤ 1 → startAnswer t mode ≡ started 0 0 (freshOf mode)
   both-start = is-started t (passed t pass)
 
-  -- "Every run without cleaning is, row for row, also a run with it": kinds included
-  pub run-forth : (G : Run t (freshIn t 0)) → (H : Run t (freshIn t 1)) × (taken H ≡ taken G)
+  -- "Every run without cleaning is, row for row, also a run with it": kinds included; the two are such a pair
+  pub run-forth : (G : Run t (freshIn t 0)) → (H : Run t (freshIn t 1)) × (taken H ≡ taken G) × (rowsOf (taken G) ≡ rowsOf (struck (taken H)))
   run-forth G =
       let (R, a, _) = begun t (passed t pass) 0 (omega arith) G in
       let (S, b, _) = pass-demand-3 t pass .forth R in
       let (H, c, _) = run-of t (passed t pass) 1 (omega arith) S in
-      (H, c ∙ (b ∙ a))
+      let e = c ∙ (b ∙ a) in
+      let g = fresh-state t (passed t pass) 0 (omega arith) in
+      (H, e, ap rowsOf (sym (ap struck (e ∙ sym a) ∙ (plain-run t (formed g) (g .sized) refl R ∙ a))))
 
   -- "strike the cleaning steps from a run with it and a run without remains"
   pub run-back : (H : Run t (freshIn t 1)) → (G : Run t (freshIn t 0)) × (taken G ≡ struck (taken H))

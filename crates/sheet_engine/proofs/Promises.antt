@@ -38,16 +38,16 @@ use Rattle.sheet_engine.proofs.give_verdict.Kinds as kinds
 use Rattle.sheet_engine.proofs.Calls.{accepted-judged, verdict-given, pass-given, fail-given, start-refused, start-bad-mode, start-fresh}
 
 -- the values of an answer
-abbrev refusalIn : VerdictAnswer → ℕ
+abbrev pub refusalIn : VerdictAnswer → ℕ
 refusalIn a = verdictValues a .refusal
 
-abbrev placeIn : VerdictAnswer → ℕ
+abbrev pub placeIn : VerdictAnswer → ℕ
 placeIn a = verdictValues a .place
 
 abbrev failsIn : VerdictAnswer → ℕ
 failsIn a = verdictValues a .fails
 
-given-unrefused : (v : Verdict) → (refusalIn (given v) ≡ 0) × (placeIn (given v) ≡ 0)
+pub given-unrefused : (v : Verdict) → (refusalIn (given v) ≡ 0) × (placeIn (given v) ≡ 0)
 unfolding given
 given-unrefused verdict.Pass = (refl, refl)
 given-unrefused (verdict.Fail row number link) = (refl, refl)

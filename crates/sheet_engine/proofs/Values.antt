@@ -23,7 +23,7 @@ use Rattle.steps.specs.Rows.{Row, NIL, PREFIX, BRANCH}
 use Rattle.steps.specs.InFront.{inFront}
 use Rattle.sheet.specs.declared.Head.{Head}
 use Rattle.sheet.specs.Table.{Table, rowBy, rowAt, evalIn}
-use Rattle.sheet.specs.Rules.{termRule, termOk, refuse}
+use Rattle.sheet.specs.Rules.{termRule, termOk, refuse, tableChecks}
 use Rattle.sheet.specs.Sheet.{sizeOf, headOf, sheetChecks}
 use Rattle.sheet.proofs.Refusals.{numbered, refused-by, accepted-by, one-place-fails, one-place-holds}
 use Rattle.codec.specs.declared.SheetAnswer.the-variants as sheet
@@ -34,8 +34,11 @@ use Rattle.state.specs.declared.StepKind.the-variants as kind
 use Rattle.moves.specs.Steps.{modeOf, marksOf, linksOf, nodes, turnBy, turnAt, kindOf, kindBy, kindTurned, kindAt, isSome, hasStep, listedOf}
 use Rattle.engine.specs.declared.Stepped.{Stepped}
 use Rattle.engine.specs.ByValue.{takenAnswer}
-use Rattle.sheet_engine.specs.Answers.{callChecks, listChecks, listAnswer, kindAnswer, notTaken, stepAnswer}
-use Rattle.sheet_engine.specs.Values.{SheetValues, sheetValues, SizeValues, sizeValues, StepValues, stepValues, shownBy, shown, rowCheck, rowChecks, Answers}
+use Rattle.verdict.specs.Verdict.{verdictOf}
+use Rattle.sheet_engine.specs.declared.VerdictAnswer.the-variants.{Refused}
+use Rattle.sheet_engine.specs.Answers.{given, verdictAnswer, callChecks, listChecks, listAnswer, kindAnswer, notTaken, stepAnswer}
+use Rattle.sheet_engine.specs.Values.{VerdictValues, verdictValues, SheetValues, sheetValues, SizeValues, sizeValues, StepValues, stepValues, shownBy, shown, rowCheck, rowChecks, Answers}
+use Rattle.sheet_engine.proofs.Promises.{given-unrefused}
 use Rattle.sheet_engine.proofs.Steps.{no-kind}
 
 -- every check holds where none gives its number
@@ -66,6 +69,10 @@ read-answers s = rw (checked-map sheetValues sheet.Refused (sheet.Sheet (headOf 
 pub write-answers : (h : Head) (ts cs : List ℕ) (lent : ℕ) → Answers (λ (v : SizeValues). v .refusal) (λ n p. sizeValues (size.Refused n p)) (sizeValues (size.Size (sizeOf h))) (writeChecks h ts cs lent) (sizeValues (writeOf h ts cs lent))
 unfolding writeOf numbered
 write-answers h ts cs lent = rw (checked-map sizeValues size.Refused (size.Size (sizeOf h)) (writeChecks h ts cs lent)) (answers _ _ _ (λ n p. refl) refl (writeChecks h ts cs lent) refl)
+
+pub verdict-answers : (t : Table) → Answers (λ (v : VerdictValues). v .refusal) (λ n p. verdictValues (Refused n p)) (verdictValues (given (verdictOf t))) (tableChecks t) (verdictValues (verdictAnswer t))
+unfolding verdictAnswer numbered
+verdict-answers t = rw (checked-map verdictValues Refused (given (verdictOf t)) (tableChecks t)) (answers _ _ _ (λ n p. refl) (given-unrefused (verdictOf t) .0) (tableChecks t) refl)
 
 pub list-answers : (t : Table) (s : State) (lent : ℕ) → Answers (λ (v : SizeValues). v .refusal) (λ n p. sizeValues (size.Refused n p)) (sizeValues (size.Size (length (listedOf t s)))) (listChecks t s lent) (sizeValues (listAnswer t s lent))
 unfolding listAnswer numbered
