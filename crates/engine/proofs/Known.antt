@@ -14,7 +14,6 @@ use Rattle.laws.specs.Tests.{bit}
 use Rattle.laws.proofs.Tests.{and-false}
 use Rattle.laws.specs.Listed.{listed, written}
 use Rattle.laws.proofs.Listed.{listed-same}
-use Rattle.laws.specs.Up.{Filled}
 use Rattle.calculus.specs.Process.{act, out, join, pick, flow}
 use Rattle.calculus.specs.Status.{Value, Unset, False, True, Links}
 use Rattle.calculus.specs.Places.{Turn, takes, drops, cleans}

@@ -23,7 +23,7 @@ use Rattle.lanes.specs.declared.Lanes.{Lanes}
 use Rattle.lanes.specs.Lanes.{Shows, linkLanes, LinksShow, Valued}
 use Rattle.words.specs.Words.{digitIs, Words}
 use Rattle.failure.specs.Blocks.{Failing, steadyTotal, steadyNumber, Unsteady}
-use Rattle.failure.specs.Failure.{linksAt, Narrow}
+use Rattle.failure.specs.Failure.{Narrow}
 use Rattle.failure.proofs.Search.{narrow-links}
 
 -- a link past the list is unset

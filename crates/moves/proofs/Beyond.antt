@@ -2,16 +2,14 @@
 use Prim.Native.Nat.{ℕ, _<_, _≤_}
 use mathlib.Core.Path.{_≡_, refl, sym, _∙_, ap, ap₂, fun-ext}
 use mathlib.Core.Bool.{Bool, true, false, cond, not, _&&_}
-use mathlib.Core.List.{List, []}
+use mathlib.Core.List.{List}
 use mathlib.Core.Logic.{by-cases}
 use mathlib.Core.Option.{Option, none, some}
 use native.Mathlib.Omega.{arith}
 use native.Mathlib.Decide.{decLt}
 use lib.Dec.{eqb, ltb}
-use borrow.Author.Tests.{le-ltb, lt-ltb, ltb-true}
+use borrow.Author.Tests.{le-ltb, ltb-true}
 use Rattle.laws.specs.Tests.{or}
-use Rattle.laws.specs.Lowest.{lowest}
-use Rattle.laws.specs.Listed.{listed}
 use Rattle.laws.specs.Checks.{checked}
 use Rattle.laws.proofs.Tests.{cond-same}
 use Rattle.laws.proofs.Lowest.{lowest-same, lowest-upto}
@@ -19,7 +17,7 @@ use Rattle.laws.proofs.Up.{up-same}
 use Rattle.laws.proofs.Down.{down-same}
 use Rattle.laws.proofs.Listed.{listed-same}
 use Rattle.laws.proofs.Checks.{checked-same}
-use Rattle.calculus.specs.Process.{Process, Prefix, act, out, join}
+use Rattle.calculus.specs.Process.{act, out, join}
 use Rattle.calculus.specs.Status.{Value, Links}
 use Rattle.calculus.specs.Places.{Turn, takes, drops, Mode}
 use Rattle.calculus.specs.Steps.{turnOf}
@@ -32,7 +30,7 @@ use Rattle.sheet.specs.Accepted.{WellFormed}
 use Rattle.sheet.proofs.Beyond.{row-same, condition-same}
 use Rattle.state.specs.declared.State.{State}
 use Rattle.state.specs.State.{decideOf}
-use Rattle.moves.specs.Steps.{modeOf, marksOf, linksOf, nodes, remainderIn, turnBy, turnAt, kindTurned, kindAt, isSome, hasStep, listedOf, falsified, isWaitingPick, otherOf, decidedOf, climbBy, idle, climbed, takenOf, droppedOf, steppedBy, steppedOf}
+use Rattle.moves.specs.Steps.{modeOf, marksOf, linksOf, nodes, remainderIn, turnBy, turnAt, kindTurned, kindAt, isSome, hasStep, listedOf, falsified, otherOf, decidedOf, climbBy, idle, climbed, takenOf, droppedOf, steppedBy, steppedOf}
 use Rattle.moves.specs.Fits.{suits, markOk, held, waitOk, keeps, live, clearRow, clearOk, marksFit, linksFit, waitsFit, clearFit, fitChecks}
 
 front-out : (node : ℕ → Row) (μ : Marks) (n r : ℕ) → n ≤ r → inFront node μ n r ≡ false

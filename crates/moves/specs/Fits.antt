@@ -33,7 +33,7 @@ suits m (BRANCH κ p q) x = suitsBranch κ x
 unfoldable pub markOk : List ℕ → ℕ → Mode → Marks → ℕ → Bool
 markOk ts n m μ i = cond (ltb i n) (suits m (rowAt ts i) (μ i)) (eqb (μ i) 0)
 
--- (b)
+-- (b) "link values are 0 to 2, and 0 from link m on"
 unfoldable pub linkOk : ℕ → List ℕ → ℕ → Bool
 linkOk m links l = cond (ltb l m) (leb (getD links l 0) 2) (eqb (getD links l 0) 0)
 

@@ -52,7 +52,7 @@ remainderIn ts n μ i = remainder μ (term (rowAt ts) n i)
 abbrev pub leftIn : Table → State → Process
 leftIn t s = remainderIn (t .terms) (t .n) (marksOf s) 0
 
--- "ACT in front: passed. OUT in front: passed. JOIN in front with a true condition: passed. JOIN in front with a false condition, cleaning mode only: dropped."
+-- "ACT in front: passed. OUT in front: passed, its link set. JOIN in front with a true condition: passed ("open")." "JOIN in front with a false condition, cleaning mode only ("clean"): dropped"
 unfoldable pub turnBy : (Prefix → Option Turn) → Row → Option Turn
 turnBy f NIL = none
 turnBy f (PREFIX π c) = f π
@@ -72,6 +72,7 @@ unfoldable pub kindIn : Label → StepKind
 kindIn (step r π) = kindOf π
 kindIn (clean r) = Clean
 
+-- a NIL, PICK or FLOW has no turn and is never asked
 unfoldable pub kindBy : Row → StepKind
 kindBy NIL = Open
 kindBy (PREFIX π c) = kindOf π

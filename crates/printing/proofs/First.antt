@@ -7,7 +7,7 @@ use Prim.Native.Nat.{ℕ, zero, suc, _+_, _≤_, _<_}
 use native.Mathlib.Omega.{arith}
 use native.Mathlib.Decide.{decLe}
 use lib.Dec.{leb}
-use lib.ListN.{length, length-append, length-drop, take, drop, getD, take-append-drop, List·getD-append}
+use lib.ListN.{length, length-append, length-drop, take, drop, take-append-drop, List·getD-append}
 use lib.Seq.{length-take-le, take-all, take-append-le}
 use borrow.Author.Tests.{leb-true, lt-leb}
 use Rattle.laws.specs.Checks.{AllHold}
@@ -31,7 +31,7 @@ use Rattle.promises.specs.Calls.{Accepted}
 use Rattle.promises.proofs.Calls.{formed, stepped}
 use Rattle.promises.proofs.Fresh.{fresh-state}
 use Rattle.lines.specs.Lines.{refusedLine, verdictLine, stepLine}
-use Rattle.printing.specs.Printed.{modeIn, sizeIn, sheetIn, rowsIn, complete, stepLines, runLines, sheetLines, printed}
+use Rattle.printing.specs.Printed.{modeIn, sizeIn, sheetIn, rowsIn, stepLines, runLines, sheetLines, printed}
 use Rattle.printing.proofs.Judging.{whole-goes, cut-refused}
 use Rattle.printing.proofs.Room.{count-few, split}
 

@@ -118,7 +118,7 @@ fn lines_of(input: &[u8], out: &mut [u8]) -> usize
     sheet_lines(out, input[0], &input[3..end], &input[end..])
 }
 
-// What is printed, for any input. The buffer holds every output.
+// What is printed, for any input. The buffer holds every output. The second clause, which follows from the first, is what a caller needs to take the output as a part of the buffer.
 pub fn print(input: &[u8], out: &mut [u8; 24576]) -> usize
     ensures { λ r. ⌜ (r ≡ length (printed (now (input .entry)))) × (now (out .exit) ≡ written (printed (now (input .entry))) (now (out .entry))) ⌝ }
     ensures { λ r. ⌜ (r ≤ length (now (out .exit))) × (r ≡ length (take r (now (out .exit)))) ⌝ }

@@ -49,7 +49,7 @@ termRule m n k row kind a b c =
 unfoldable pub termOk : List ℕ → ℕ → ℕ → ℕ → ℕ → Bool
 termOk ts m n k row = termRule m n k row (getD ts (row * 4) 0) (getD ts (row * 4 + 1) 0) (getD ts (row * 4 + 2) 0) (getD ts (row * 4 + 3) 0)
 
--- 6: how often a row is named as a child
+-- 6: "Every row but 0 is the child of exactly one row, once": how often a row is named as a child
 unfoldable pub same : ℕ → ℕ → ℕ
 same a b = cond (eqb a b) 1 0
 
@@ -59,7 +59,7 @@ namings N j = same (firstOf N) j + same (secondOf N) j
 unfoldable pub timesNamed : List ℕ → ℕ → ℕ → ℕ
 timesNamed ts n j = sum (λ i. namings (rowAt ts i) j) n
 
--- 7: how many OUT rows name a link
+-- 7: "no two OUT rows name the same link": how many do
 unfoldable pub sources : List ℕ → ℕ → ℕ → ℕ
 sources ts n l = count (λ i. isSource (rowAt ts i) l) n
 
@@ -96,7 +96,7 @@ oneSource m n ts = record { number = 7; from = 0; upto = m; rule = λ l. leb (so
 abbrev pub narrow : ℕ → ℕ → List ℕ → List ℕ → Check
 narrow m n ts cs = record { number = 8; from = 0; upto = n; rule = λ j. narrowRow m (conditionRowAt cs) (rowAt ts j) }
 
--- "A table is judged by 1 and 3 to 8 in every call." A later check is put in here; `from5` is the list from check 5 on.
+-- "A table is judged by 1 and 3 to 8 in every call." `from5` is the list from check 5 on.
 module _ (t : Table) where
   abbrev pub from8 : List Check
   from8 = narrow (t .m) (t .n) (t .terms) (t .conditions) ∷ []

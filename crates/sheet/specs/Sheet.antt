@@ -27,7 +27,7 @@ numberAt s i = getD s i 0 + 256 * getD s (i + 1) 0
 abbrev pub entry : ℕ → ℕ → ℕ → List ℕ
 entry kind start size = kind ∷ (twoBytes start ++ twoBytes size)
 
--- "Byte 0 is 3, the count of contents entries."; then "Settings, 2 bytes: evaluation, number of links m"
+-- "Byte 0 is 3, the count of contents entries."; then "Settings, 2 bytes: evaluation (0 strict, 1 lazy), number of links m, 0 to 64."
 unfoldable pub front : Head → List ℕ
 front h = 3 ∷ (entry 1 bodiesAt 2 ++ (entry 2 termsAt (4 * h .n) ++ (entry 3 (termsAt + 4 * h .n) (4 * h .k) ++ (h .evaluation ∷ (h .m ∷ [])))))
 
@@ -73,7 +73,7 @@ contentsOk s p =
 abbrev pub contents : List ℕ → Check
 contents s = record { number = 2; from = 0; upto = 12; rule = contentsOk s }
 
--- "a sheet is judged by 1 and 2, and as the table of its parts"
+-- a sheet is judged by 1 and 2, and then as the table of its parts
 abbrev pub tableIn : List ℕ → Table
 tableIn s = tableOf (headOf s) (termsOf s) (conditionsOf s)
 

@@ -21,15 +21,14 @@ use Rattle.codec.specs.declared.SizeAnswer.the-variants as size
 use Rattle.state.specs.declared.State.{State}
 use Rattle.state.specs.declared.StepKind.the-variants as kind
 use Rattle.state.specs.State.{freshOf}
-use Rattle.moves.specs.Steps.{kindAt, hasStep, steppedOf, listedOf}
+use Rattle.moves.specs.Steps.{kindAt, listedOf}
 use Rattle.moves.specs.Fits.{modeCheck, fitChecks}
 use Rattle.moves.proofs.Beyond.{cut-fits, cut-kind, cut-listed, cut-stepped}
 use Rattle.engine.specs.ByValue.{takenAnswer}
-use Rattle.verdict.specs.declared.Verdict.{Verdict}
 use Rattle.verdict.specs.Verdict.{verdictOf}
 use Rattle.verdict.proofs.Beyond.{cut-verdict}
 use Rattle.sheet_engine.specs.declared.VerdictAnswer.the-variants.{Refused}
-use Rattle.sheet_engine.specs.Answers.{given, verdictAnswer, startChecks, started, notStarted, startAnswer, callChecks, listChecks, listAnswer, listBuffer, kindAnswer, notTaken, stepAnswer}
+use Rattle.sheet_engine.specs.Answers.{given, verdictAnswer, started, notStarted, startAnswer, callChecks, listChecks, listAnswer, listBuffer, kindAnswer, notTaken, stepAnswer}
 
 formed : (t : Table) → AllHold (tableChecks t) → WellFormed t
 unfolding refusalOf

@@ -1,4 +1,4 @@
-// A state: the mode, one mark for each of 256 rows and one value for each of 64 links. It changes only through the four methods.
+// A state: the mode, one mark for each of 256 rows and one value for each of 64 links. The engine changes it by the four methods.
 ghost use mathlib.Core.Path.{_≡_};
 ghost use Prim.Native.Nat.{_<_};
 ghost use lib.ListN.{replicate};

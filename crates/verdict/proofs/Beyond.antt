@@ -1,7 +1,7 @@
 -- "Places beyond these are no part of it": the verdict of an accepted table is that of the table without them. Assumes nothing.
 use Prim.Native.Nat.{ℕ, _*_, _<_}
 use mathlib.Core.Path.{_≡_, refl, sym, _∙_, ap}
-use mathlib.Core.Bool.{Bool, true, cond, not, _&&_}
+use mathlib.Core.Bool.{true, cond, not, _&&_}
 use mathlib.Core.List.{List}
 use mathlib.Core.Logic.{by-cases}
 use native.Mathlib.Omega.{arith}
@@ -18,7 +18,7 @@ use Rattle.sheet.specs.Accepted.{WellFormed}
 use Rattle.sheet.proofs.Beyond.{row-same, condition-same}
 use Rattle.failure.specs.Failure.{failsAt, numberAt, linkAt}
 use Rattle.verdict.specs.declared.Verdict.{Verdict}
-use Rattle.verdict.specs.declared.Verdict.the-variants.{Pass, Fail}
+use Rattle.verdict.specs.declared.Verdict.the-variants.{Pass}
 use Rattle.verdict.specs.Verdict.{isJoinPrefix, isJoin, conditionOfPrefix, conditionOf, failsIn, sound, failing, failAt, verdictOf}
 use Rattle.verdict.proofs.Exactly.{join-of}
 

@@ -17,7 +17,7 @@ use Rattle.steps.specs.Rows.{NIL, PREFIX, BRANCH}
 use Rattle.sheet.specs.Table.{Table, rowBy, rowAt}
 use Rattle.reach.specs.Masks.{maskAt}
 use Rattle.failure.specs.declared.Failure.the-variants.{None, At}
-use Rattle.failure.specs.Failure.{failsAt, numberAt, linkAt, failureOf, Narrow}
+use Rattle.failure.specs.Failure.{numberAt, linkAt, failureOf, Narrow}
 use Rattle.failure.proofs.Search.{failure-none}
 use Rattle.verdict.specs.declared.Verdict.the-variants.{Pass, Fail}
 use Rattle.verdict.specs.Verdict.{isJoinPrefix, isJoin, conditionOfPrefix, conditionOf, failsIn, sound, failing, failAt, verdictOf, Judged}

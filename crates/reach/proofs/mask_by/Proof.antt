@@ -4,41 +4,30 @@ use Rattle.reach.specs.Masks.{maskBy}
 use borrow.Author.Needs.{needs}
 use Rattle.reach.proofs.mask_by.Statement.{statement}
 use Rattle.reach.proofs.mask_by.Tie as tie
-use Rattle.reach.proofs.mask_by.Reads as reads
-use Rattle.reach.proofs.mask_by.Lts as lts
-use Rattle.reach.proofs.bit.Reads as bit-reads
-use Rattle.reach.proofs.both.Reads as both-reads
 
--- src/lib.rt:39:14
 bit-requires : tie.Need-bit-requires
 bit-requires c κs = search needs
 
--- src/lib.rt:40:30
 both-requires : tie.Need-both-requires
 both-requires c κs = search needs
 
--- src/lib.rt:33:1
 returns : tie.Need-returns
 unfolding conditionRowBy maskBy
 returns c = rw (c .match .keys1)
 
--- src/lib.rt:33:1
 returns-2 : tie.Need-returns-2
 unfolding conditionRowBy maskBy
 returns-2 c = rw (c .match .keys2)
 
--- src/lib.rt:33:1
 returns-3 : tie.Need-returns-3
 unfolding conditionRowBy maskBy
 returns-3 c = rw (c .before .match .keys3) (c .bit .ensures)
 
--- src/lib.rt:33:1
 returns-4 : tie.Need-returns-4
 unfolding conditionRowBy maskBy
 returns-4 c = let m = c .before .before .match .rest in
     rw (ne-eqb _ 0 (m .0 .0 .1), ne-eqb _ 1 (m .0 .1), ne-eqb _ 2 (m .1), lt-ltb _ 7 (c .before .if1 .taken)) (c .both .ensures)
 
--- src/lib.rt:33:1
 returns-5 : tie.Need-returns-5
 unfolding conditionRowBy maskBy
 returns-5 c = let m = c .before .match .rest in

@@ -5,35 +5,27 @@ use Rattle.sheet.specs.Table.{rowBy}
 use Rattle.sheet.proofs.Rows.{row-other}
 use Rattle.rows.proofs.first_by.Statement.{statement}
 use Rattle.rows.proofs.first_by.Tie as tie
-use Rattle.rows.proofs.first_by.Reads as reads
-use Rattle.rows.proofs.first_by.Lts as lts
 
--- src/lib.rt:108:1
 returns : tie.Need-returns
 unfolding rowBy firstOf
 returns c = rw (c .match .keys1)
 
--- src/lib.rt:108:1
 returns-2 : tie.Need-returns-2
 unfolding rowBy firstOf
 returns-2 c = rw (c .match .keys2)
 
--- src/lib.rt:108:1
 returns-3 : tie.Need-returns-3
 unfolding rowBy firstOf
 returns-3 c = rw (c .match .keys3)
 
--- src/lib.rt:108:1
 returns-4 : tie.Need-returns-4
 unfolding rowBy firstOf
 returns-4 c = rw (c .match .keys4)
 
--- src/lib.rt:108:1
 returns-5 : tie.Need-returns-5
 unfolding rowBy firstOf
 returns-5 c = rw (c .match .keys5)
 
--- src/lib.rt:108:1
 returns-6 : tie.Need-returns-6
 unfolding firstOf
 returns-6 c = let m = c .match .rest in

@@ -2,47 +2,34 @@ use Rattle.sheet.specs.Table.{rowAt}
 use borrow.Author.Needs.{needs}
 use Rattle.rows.proofs.second.Statement.{statement}
 use Rattle.rows.proofs.second.Tie as tie
-use Rattle.rows.proofs.second.Reads as reads
-use Rattle.rows.proofs.second.Lts as lts
-use Rattle.rows.proofs.second_by.Reads as second-by-reads
 
--- src/lib.rt:45:14
 mul-at : tie.Need-mul-at
 mul-at c = search needs
 
--- src/lib.rt:46:15
 shared-slice-read-second-by : tie.Need-shared-slice-read-second-by
 shared-slice-read-second-by c = search needs
 
--- src/lib.rt:46:26
 add-second-by : tie.Need-add-second-by
 add-second-by c = search needs
 
--- src/lib.rt:46:23
 shared-slice-read-second-by-2 : tie.Need-shared-slice-read-second-by-2
 shared-slice-read-second-by-2 c = search needs
 
--- src/lib.rt:46:38
 add-second-by-2 : tie.Need-add-second-by-2
 add-second-by-2 c = search needs
 
--- src/lib.rt:46:35
 shared-slice-read-second-by-3 : tie.Need-shared-slice-read-second-by-3
 shared-slice-read-second-by-3 c = search needs
 
--- src/lib.rt:46:50
 add-second-by-3 : tie.Need-add-second-by-3
 add-second-by-3 c = search needs
 
--- src/lib.rt:46:47
 shared-slice-read-second-by-4 : tie.Need-shared-slice-read-second-by-4
 shared-slice-read-second-by-4 c = search needs
 
--- src/lib.rt:46:5
 second-by-requires : tie.Need-second-by-requires
 second-by-requires c κs = search needs
 
--- src/lib.rt:41:1
 returns : tie.Need-returns
 unfolding rowAt
 returns c = c .second-by .ensures

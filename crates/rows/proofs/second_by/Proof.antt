@@ -5,20 +5,15 @@ use Rattle.sheet.specs.Table.{rowBy}
 use Rattle.sheet.proofs.Rows.{row-one-child}
 use Rattle.rows.proofs.second_by.Statement.{statement}
 use Rattle.rows.proofs.second_by.Tie as tie
-use Rattle.rows.proofs.second_by.Reads as reads
-use Rattle.rows.proofs.second_by.Lts as lts
 
--- src/lib.rt:121:1
 returns : tie.Need-returns
 unfolding rowBy secondOf
 returns c = rw (c .match .keys1)
 
--- src/lib.rt:121:1
 returns-2 : tie.Need-returns-2
 unfolding rowBy secondOf
 returns-2 c = rw (c .match .keys2)
 
--- src/lib.rt:121:1
 returns-3 : tie.Need-returns-3
 returns-3 c = let m = c .match .rest in
     sym (row-one-child _ _ _ _ (ne-eqb _ 4 (m .0 .1)) (ne-eqb _ 5 (m .1)))
