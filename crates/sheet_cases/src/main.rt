@@ -1,4 +1,4 @@
-// Sheets and tables at each limit and with each refusal: what reading, judging and writing answer.
+// Sheets and tables at each limit, with refusals 1 to 8 and 12: what `codec` and `judge` answer when they read, judge and write.
 use codec::SheetAnswer;
 use codec::SizeAnswer;
 use libc::STDOUT_FILENO;
