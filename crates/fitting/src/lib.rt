@@ -70,8 +70,8 @@ fn wait_ok(held: u8, ts: &[u8], row: usize, mark: u8) -> bool
     true
 }
 
-// The value of a link; one from 64 on is unset.
-fn link_value(links: &[u8; 64], link: u8) -> u8
+// The byte of a link; 0 from link 64 on.
+fn link_byte(links: &[u8; 64], link: u8) -> u8
     requires { ⌜ length (now links) ≡ 64 ⌝ }
     ensures { λ r. ⌜ r ≡ getD (now (links .entry)) link 0 ⌝ }
 {
@@ -87,7 +87,7 @@ fn clear_row(ts: &[u8], row: usize, mark: u8, links: &[u8; 64]) -> bool
     ensures { λ r. ⌜ r ≡ clearRow (rowAt (now (ts .entry)) row) mark (now (links .entry)) ⌝ }
 {
     match ts[row * 4] {
-        2 => (mark == 1) | ((mark == 4) | (link_value(links, ts[row * 4 + 1]) == 0)),
+        2 => (mark == 1) | ((mark == 4) | (link_byte(links, ts[row * 4 + 1]) == 0)),
         _ => true,
     }
 }

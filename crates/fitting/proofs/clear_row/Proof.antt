@@ -7,7 +7,7 @@ use Rattle.fitting.proofs.clear_row.Statement.{statement}
 use Rattle.fitting.proofs.clear_row.Tie as tie
 use Rattle.fitting.proofs.clear_row.Reads as reads
 use Rattle.fitting.proofs.clear_row.Lts as lts
-use Rattle.fitting.proofs.link_value.Reads as link-value-reads
+use Rattle.fitting.proofs.link_byte.Reads as link-byte-reads
 
 -- src/lib.rt:107:14
 mul-match : tie.Need-mul-match
@@ -18,25 +18,25 @@ shared-slice-read-match : tie.Need-shared-slice-read-match
 shared-slice-read-match c = search needs
 
 -- src/lib.rt:108:65
-mul-link-value : tie.Need-mul-link-value
-mul-link-value c = search needs
+mul-link-byte : tie.Need-mul-link-byte
+mul-link-byte c = search needs
 
 -- src/lib.rt:108:65
-add-link-value : tie.Need-add-link-value
-add-link-value c = search needs
+add-link-byte : tie.Need-add-link-byte
+add-link-byte c = search needs
 
 -- src/lib.rt:108:62
-shared-slice-read-link-value : tie.Need-shared-slice-read-link-value
-shared-slice-read-link-value c = search needs
+shared-slice-read-link-byte : tie.Need-shared-slice-read-link-byte
+shared-slice-read-link-byte c = search needs
 
 -- src/lib.rt:108:44
-link-value-requires : tie.Need-link-value-requires
-link-value-requires c κs = search needs
+link-byte-requires : tie.Need-link-byte-requires
+link-byte-requires c κs = search needs
 
 -- src/lib.rt:103:1
 returns : tie.Need-returns
 unfolding rowAt rowBy clearRow clearPrefix
-returns c = rw (c .before .before .match .keys1, c .link-value .ensures) (set-mark _ _)
+returns c = rw (c .before .before .match .keys1, c .link-byte .ensures) (set-mark _ _)
 
 -- src/lib.rt:103:1
 returns-2 : tie.Need-returns-2
@@ -49,9 +49,9 @@ clear-row-spec =
     (tie.spec
     mul-match
     shared-slice-read-match
-    mul-link-value
-    add-link-value
-    shared-slice-read-link-value
-    link-value-requires
+    mul-link-byte
+    add-link-byte
+    shared-slice-read-link-byte
+    link-byte-requires
     returns
     returns-2)
