@@ -47,15 +47,15 @@ fn link_ok(m: usize, link: usize, value: u8) -> bool
 }
 
 // (c) the row waits.
-fn waits(ts: &[u8], row: usize, mark: u8) -> bool
+fn waiting(ts: &[u8], row: usize, mark: u8) -> bool
     requires { ⌜ row * 4 + 4 ≤ length (now ts) ⌝ }
     ensures { λ r. ⌜ r ≡ waiting (rowAt (now (ts .entry)) row) mark ⌝ }
 {
     match ts[row * 4] {
-        1 => (mark != 1) & (mark != 4),
-        2 => (mark != 1) & (mark != 4),
-        3 => (mark != 1) & (mark != 4),
-        4 => (mark != 2) & (mark != 3),
+        1 => front::waits(mark),
+        2 => front::waits(mark),
+        3 => front::waits(mark),
+        4 => front::undecided(mark),
         _ => true,
     }
 }
@@ -65,7 +65,7 @@ fn wait_ok(held: u8, ts: &[u8], row: usize, mark: u8) -> bool
     ensures { λ r. ⌜ r ≡ or (not (eqb held 1)) (waiting (rowAt (now (ts .entry)) row) mark) ⌝ }
 {
     if held == 1 {
-        return waits(ts, row, mark);
+        return waiting(ts, row, mark);
     }
     true
 }
@@ -87,7 +87,7 @@ fn clear_row(ts: &[u8], row: usize, mark: u8, links: &[u8; 64]) -> bool
     ensures { λ r. ⌜ r ≡ clearRow (rowAt (now (ts .entry)) row) mark (now (links .entry)) ⌝ }
 {
     match ts[row * 4] {
-        2 => (mark == 1) | ((mark == 4) | (link_byte(links, ts[row * 4 + 1]) == 0)),
+        2 => !front::waits(mark) | (link_byte(links, ts[row * 4 + 1]) == 0),
         _ => true,
     }
 }
