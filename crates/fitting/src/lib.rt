@@ -11,7 +11,7 @@ ghost use Rattle.steps.specs.InFront.{waiting};
 ghost use Rattle.sheet.specs.Table.{rowAt};
 ghost use Rattle.sheet.specs.Rules.{refuse};
 ghost use Rattle.moves.specs.Steps.{modeOf};
-ghost use Rattle.moves.specs.Fits.{suits, clearRow, marksFit, linksFit, waitsFit, clearFit};
+ghost use Rattle.moves.specs.Fits.{suits, clearRow, modeCheck, marksFit, linksFit, waitsFit, clearFit};
 ghost use Rattle.fitting.specs.Checks.{restFit, fromD, fromC, fromB, fromA, stateChecks};
 use sheet::Refusal;
 use state::State;
@@ -20,6 +20,13 @@ fn wide(x: u8) -> usize
     ensures { λ r. ⌜ r ≡ x ⌝ }
 {
     x as usize
+}
+
+// 9: the mode is 0 or 1.
+pub fn mode_ok(mode: u8) -> bool
+    ensures { λ r. ⌜ r ≡ modeCheck mode .rule mode ⌝ }
+{
+    mode <= 1
 }
 
 // (a) the mark suits its row and the mode.
@@ -251,7 +258,7 @@ pub fn fit(m: usize, n: usize, ts: &[u8], s: State) -> Refusal
     ensures { λ r. ⌜ r ≡ checked refuse (refuse 0 0) (stateChecks m n (now (ts .entry)) s) ⌝ }
 {
     let mode = s.mode;
-    if 1 < mode {
+    if !mode_ok(mode) {
         return Refusal {
             number: 9,
             place: wide(mode),
