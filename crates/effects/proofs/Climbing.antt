@@ -1,7 +1,7 @@
 -- The climb of a step, each row above looked at once; the decision at a row; a row's own link. Assumes nothing.
 use Prim.Native.Nat.{ℕ, zero, suc, _+_, _-_, _<_, _≤_}
 use mathlib.Core.Path.{_≡_, refl, sym, ap, _∙_}
-use mathlib.Core.Bool.{Bool, true, false, cond, _&&_, not, true≢false}
+use mathlib.Core.Bool.{Bool, true, false, cond, _&&_, true≢false}
 use mathlib.Core.List.{List}
 use mathlib.Core.Logic.{by-cases}
 use native.Mathlib.Omega.{arith}
@@ -15,7 +15,7 @@ use Rattle.calculus.specs.Process.{act, out, join, pick, flow}
 use Rattle.calculus.specs.Places.{own, sets, plain, cleaning, falsifies}
 use Rattle.conditions.specs.Numbers.{digit}
 use Rattle.steps.specs.Rows.{Row, NIL, PREFIX, BRANCH, firstOf, secondOf, isSource, Kids, Tree}
-use Rattle.steps.specs.Marks.{Marks, openBy, open-branches}
+use Rattle.steps.specs.Marks.{Marks, open-branches}
 use Rattle.steps.specs.InFront.{names, parentOf, rightOf, waitingStep, undecided}
 use Rattle.steps.proofs.Tree.{child-above}
 use Rattle.steps.proofs.Parents.{child-number, number-child, child-names, names-child, parent-is}
@@ -104,14 +104,9 @@ waiting-pick-other kind a b c m e = rw e (at (eqb kind 0) (eqb kind 1) (eqb kind
     at false false false false true = refl
     at false false false false false = refl
 
-pub waiting-pick : (kind a b c m : ℕ) → kind ≡ 4 → (not (eqb m 2) && not (eqb m 3)) ≡ isWaitingPick (rowBy kind a b c) m
-unfolding rowBy isWaitingPick open-branches undecided
-waiting-pick kind a b c m e = rw e (at (eqb m 2) (eqb m 3))
-  where
-    at : (x y : Bool) → (not x && not y) ≡ undecided (openBy x y)
-    at true y = refl
-    at false true = refl
-    at false false = refl
+pub waiting-pick : (kind a b c m : ℕ) → kind ≡ 4 → undecided (open-branches pick m) ≡ isWaitingPick (rowBy kind a b c) m
+unfolding rowBy isWaitingPick
+waiting-pick kind a b c m e = rw e refl
 
 -- a row that is no OUT has no link of its own
 other-row : (C : Row → Type 0) (kind a b c : ℕ) → eqb kind 2 ≡ false → C NIL → ((x : ℕ) → C (PREFIX (act a) x)) → ((x : ℕ) → C (PREFIX (join a) x)) → C (BRANCH pick a b) → C (BRANCH flow a b) → C (rowBy kind a b c)

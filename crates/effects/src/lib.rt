@@ -92,7 +92,7 @@ fn waiting_pick(ts: &[u8], row: usize, mark: u8) -> bool
     if ts[row * 4] != 4 {
         return false;
     }
-    (mark != 2) & (mark != 3)
+    front::undecided(mark)
 }
 
 fn falsifies(mode: u8) -> bool

@@ -81,9 +81,9 @@ fn link_value(links: &[u8; 64], l: u8) -> u8
     reading(links[l as usize])
 }
 
-fn operand(vals: &Values, row: u8) -> u8
-    requires { ⌜ length (now vals) ≡ 256 ⌝ }
-    ensures { λ r. ⌜ r ≡ getD (now (vals .entry)) row 1 ⌝ }
+// The value of a row, from a table of values.
+pub fn value_in(vals: &Values, row: u8) -> u8
+    ensures { λ r. ⌜ r ≡ valueIn (now (vals .entry)) row ⌝ }
 {
     vals[row as usize]
 }
@@ -99,7 +99,7 @@ fn value_by(evaluation: u8, kind: u8, a: u8, b: u8, links: &[u8; 64], vals: &Val
         2 => link_value(links, a),
         _ => {
             if kind < 7 {
-                operate(evaluation, kind - 3, operand(vals, a), operand(vals, b))
+                operate(evaluation, kind - 3, value_in(vals, a), value_in(vals, b))
             } else {
                 1
             }
@@ -128,11 +128,4 @@ pub fn values(evaluation: u8, cs: &[u8], k: usize, links: &[u8; 64]) -> Values
         i += 1;
     }
     vals
-}
-
-// The value of a row, from a table of values.
-pub fn value_in(vals: &Values, row: u8) -> u8
-    ensures { λ r. ⌜ r ≡ valueIn (now (vals .entry)) row ⌝ }
-{
-    vals[row as usize]
 }

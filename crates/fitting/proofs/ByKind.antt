@@ -1,7 +1,7 @@
 -- What the checks ask of a row, by the kind in its bytes. Assumes nothing.
 use Prim.Native.Nat.{ℕ, zero, suc, _≤_}
 use mathlib.Core.Path.{_≡_, refl}
-use mathlib.Core.Bool.{Bool, true, false, cond, _&&_, _||_, not}
+use mathlib.Core.Bool.{Bool, true, false, cond, _||_, not}
 use mathlib.Core.List.{List, [], _∷_}
 use native.Mathlib.Omega.{arith}
 use lib.Dec.{eqb}
@@ -11,7 +11,7 @@ use Rattle.laws.proofs.Tests.{or-is}
 use Rattle.calculus.specs.Process.{act, join, pick, flow}
 use Rattle.calculus.specs.Places.{Mode}
 use Rattle.steps.specs.Rows.{Row, NIL, PREFIX, BRANCH}
-use Rattle.steps.specs.Marks.{standBy, stand, openBy, open-branches}
+use Rattle.steps.specs.Marks.{stand, open-branches}
 use Rattle.steps.specs.InFront.{waitsBy, undecided, waiting}
 use Rattle.sheet.specs.Table.{rowBy}
 use Rattle.moves.specs.Fits.{suitsBranch, suits, clearPrefix, clearRow}
@@ -37,29 +37,11 @@ unfolding suits suitsBranch
 suits-rest m kind a b c x e₁ e₂ e₃ e₄ = rest-is kind a b c e₁ e₂ e₃ e₄ (λ N. eqb x 0 ≡ suits m N x) refl refl
 
 -- (c)
-pub undecided-mark : (x : ℕ) → not (eqb x 2) && not (eqb x 3) ≡ undecided (open-branches pick x)
-unfolding open-branches undecided
-undecided-mark x = at (eqb x 2) (eqb x 3)
-  where
-    at : (a b : Bool) → not a && not b ≡ undecided (openBy a b)
-    at true b = refl
-    at false true = refl
-    at false false = refl
-
 pub waiting-rest : (kind a b c x : ℕ) → eqb kind 1 ≡ false → eqb kind 2 ≡ false → eqb kind 3 ≡ false → eqb kind 4 ≡ false → true ≡ waiting (rowBy kind a b c) x
 unfolding waiting open-branches undecided
 waiting-rest kind a b c x e₁ e₂ e₃ e₄ = rest-is kind a b c e₁ e₂ e₃ e₄ (λ N. true ≡ waiting N x) refl refl
 
 -- (d)
-pub set-mark : (x : ℕ) (b : Bool) → eqb x 1 || (eqb x 4 || b) ≡ or (not (waitsBy (stand x))) b
-unfolding stand waitsBy or
-set-mark x b = at (eqb x 1) (eqb x 4)
-  where
-    at : (p q : Bool) → p || (q || b) ≡ or (not (waitsBy (standBy p q))) b
-    at true q = refl
-    at false true = refl
-    at false false = refl
-
 always : (b : Bool) → true ≡ or b true
 unfolding or
 always true = refl

@@ -11,7 +11,7 @@ ghost use Rattle.steps.specs.InFront.{waiting};
 ghost use Rattle.sheet.specs.Table.{rowAt};
 ghost use Rattle.sheet.specs.Rules.{refuse};
 ghost use Rattle.moves.specs.Steps.{modeOf};
-ghost use Rattle.moves.specs.Fits.{suits, clearRow, marksFit, linksFit, waitsFit, clearFit};
+ghost use Rattle.moves.specs.Fits.{suits, clearRow, modeCheck, marksFit, linksFit, waitsFit, clearFit};
 ghost use Rattle.fitting.specs.Checks.{restFit, fromD, fromC, fromB, fromA, stateChecks};
 use sheet::Refusal;
 use state::State;
@@ -20,6 +20,13 @@ fn wide(x: u8) -> usize
     ensures { λ r. ⌜ r ≡ x ⌝ }
 {
     x as usize
+}
+
+// 9: the mode is 0 or 1.
+pub fn mode_ok(mode: u8) -> bool
+    ensures { λ r. ⌜ r ≡ modeCheck mode .rule mode ⌝ }
+{
+    mode <= 1
 }
 
 // (a) the mark suits its row and the mode.
@@ -47,15 +54,15 @@ fn link_ok(m: usize, link: usize, value: u8) -> bool
 }
 
 // (c) the row waits.
-fn waits(ts: &[u8], row: usize, mark: u8) -> bool
+fn waiting(ts: &[u8], row: usize, mark: u8) -> bool
     requires { ⌜ row * 4 + 4 ≤ length (now ts) ⌝ }
     ensures { λ r. ⌜ r ≡ waiting (rowAt (now (ts .entry)) row) mark ⌝ }
 {
     match ts[row * 4] {
-        1 => (mark != 1) & (mark != 4),
-        2 => (mark != 1) & (mark != 4),
-        3 => (mark != 1) & (mark != 4),
-        4 => (mark != 2) & (mark != 3),
+        1 => front::waits(mark),
+        2 => front::waits(mark),
+        3 => front::waits(mark),
+        4 => front::undecided(mark),
         _ => true,
     }
 }
@@ -65,13 +72,13 @@ fn wait_ok(held: u8, ts: &[u8], row: usize, mark: u8) -> bool
     ensures { λ r. ⌜ r ≡ or (not (eqb held 1)) (waiting (rowAt (now (ts .entry)) row) mark) ⌝ }
 {
     if held == 1 {
-        return waits(ts, row, mark);
+        return waiting(ts, row, mark);
     }
     true
 }
 
-// The value of a link; one from 64 on is unset.
-fn link_value(links: &[u8; 64], link: u8) -> u8
+// The byte of a link; 0 from link 64 on.
+fn link_byte(links: &[u8; 64], link: u8) -> u8
     requires { ⌜ length (now links) ≡ 64 ⌝ }
     ensures { λ r. ⌜ r ≡ getD (now (links .entry)) link 0 ⌝ }
 {
@@ -87,7 +94,7 @@ fn clear_row(ts: &[u8], row: usize, mark: u8, links: &[u8; 64]) -> bool
     ensures { λ r. ⌜ r ≡ clearRow (rowAt (now (ts .entry)) row) mark (now (links .entry)) ⌝ }
 {
     match ts[row * 4] {
-        2 => (mark == 1) | ((mark == 4) | (link_value(links, ts[row * 4 + 1]) == 0)),
+        2 => !front::waits(mark) | (link_byte(links, ts[row * 4 + 1]) == 0),
         _ => true,
     }
 }
@@ -251,7 +258,7 @@ pub fn fit(m: usize, n: usize, ts: &[u8], s: State) -> Refusal
     ensures { λ r. ⌜ r ≡ checked refuse (refuse 0 0) (stateChecks m n (now (ts .entry)) s) ⌝ }
 {
     let mode = s.mode;
-    if 1 < mode {
+    if !mode_ok(mode) {
         return Refusal {
             number: 9,
             place: wide(mode),

@@ -9,8 +9,8 @@ use Rattle.laws.proofs.Tests.{and-false, or-is, or-none}
 use Rattle.calculus.specs.Process.{Prefix, act, out, join, pick, flow}
 use Rattle.calculus.specs.Places.{plain, cleaning, cleans}
 use Rattle.steps.specs.Rows.{Row, NIL, PREFIX, BRANCH, firstOf, secondOf}
-use Rattle.steps.specs.Marks.{standBy, stand, open-branches}
-use Rattle.steps.specs.InFront.{waitsBy, passedBy, waitingStep, opens, leads}
+use Rattle.steps.specs.Marks.{standBy, stand, openBy, open-branches}
+use Rattle.steps.specs.InFront.{waitsBy, passedBy, undecided, waitingStep, opens, leads}
 use Rattle.steps.specs.Push.{setIf, handed}
 use Rattle.sheet.specs.Table.{rowBy}
 use Rattle.moves.specs.Steps.{modeOf}
@@ -31,6 +31,15 @@ unfolding stand waitsBy
 waits-mark m = at (eqb m 1) (eqb m 4)
   where
     at : (a b : Bool) → waitsBy (standBy a b) ≡ not a && not b
+    at true b = refl
+    at false true = refl
+    at false false = refl
+
+pub undecided-mark : (m : ℕ) → undecided (open-branches pick m) ≡ not (eqb m 2) && not (eqb m 3)
+unfolding open-branches undecided
+undecided-mark m = at (eqb m 2) (eqb m 3)
+  where
+    at : (a b : Bool) → undecided (openBy a b) ≡ not a && not b
     at true b = refl
     at false true = refl
     at false false = refl

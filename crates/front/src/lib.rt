@@ -9,7 +9,7 @@ ghost use Rattle.calculus.specs.Process.{pick};
 ghost use Rattle.calculus.specs.Places.{cleans};
 ghost use Rattle.steps.specs.Rows.{Tree};
 ghost use Rattle.steps.specs.Marks.{stand, open-branches};
-ghost use Rattle.steps.specs.InFront.{waitsBy, passedBy, waitingStep, opens};
+ghost use Rattle.steps.specs.InFront.{waitsBy, passedBy, undecided, waitingStep, opens};
 ghost use Rattle.steps.specs.Push.{setIf, handed};
 ghost use Rattle.sheet.specs.Table.{rowAt};
 ghost use Rattle.moves.specs.Steps.{modeOf};
@@ -30,6 +30,20 @@ pub fn cleans(mode: u8) -> bool
     mode == 1
 }
 
+// The mark of an ACT, OUT or JOIN that waits.
+pub fn waits(mark: u8) -> bool
+    ensures { λ r. ⌜ r ≡ waitsBy (stand mark) ⌝ }
+{
+    (mark != 1) & (mark != 4)
+}
+
+// The mark of a PICK of which no branch is taken.
+pub fn undecided(mark: u8) -> bool
+    ensures { λ r. ⌜ r ≡ undecided (open-branches pick mark) ⌝ }
+{
+    (mark != 2) & (mark != 3)
+}
+
 // A branch of a PICK is open.
 fn opens(mark: u8, right: bool) -> bool
     ensures { λ r. ⌜ r ≡ opens (open-branches pick mark) right ⌝ }
@@ -47,9 +61,9 @@ pub fn waiting_step(ts: &[u8], row: usize, mark: u8) -> bool
     ensures { λ r. ⌜ r ≡ waitingStep (rowAt (now (ts .entry)) row) mark ⌝ }
 {
     match ts[row * 4] {
-        1 => (mark != 1) & (mark != 4),
-        2 => (mark != 1) & (mark != 4),
-        3 => (mark != 1) & (mark != 4),
+        1 => waits(mark),
+        2 => waits(mark),
+        3 => waits(mark),
         _ => false,
     }
 }
@@ -86,7 +100,7 @@ fn next_by(asked: u8, leads: bool, waits: bool, keeps: bool, own: bool) -> bool
 fn step_next(asked: u8, mark: u8, own: bool) -> bool
     ensures { λ r. ⌜ r ≡ nextBy asked (passedBy (stand mark)) (waitsBy (stand mark)) (keepsBy (stand mark)) own ⌝ }
 {
-    next_by(asked, mark == 1, (mark != 1) & (mark != 4), mark != 4, own)
+    next_by(asked, mark == 1, waits(mark), mark != 4, own)
 }
 
 // A PICK.

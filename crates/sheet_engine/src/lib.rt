@@ -104,7 +104,7 @@ pub fn start(h: Head, ts: &[u8], cs: &[u8], mode: u8) -> Started
             state: state::fresh(0),
         };
     }
-    if 1 < mode {
+    if !fitting::mode_ok(mode) {
         return Started {
             number: 9,
             place: mode as usize,

@@ -1,3 +1,5 @@
+use Rattle.evaluate.proofs.Rows.{getD-any}
+use native.Mathlib.Omega.{arith}
 use borrow.Author.Tests.{lt-ltb, le-ltb, ne-eqb}
 use Rattle.conditions.specs.Numbers.{digit}
 use Rattle.conditions.specs.ByRows.{valueBy}
@@ -8,7 +10,7 @@ use Rattle.evaluate.proofs.value_by.Tie as tie
 use Rattle.evaluate.proofs.value_by.Reads as reads
 use Rattle.evaluate.proofs.value_by.Lts as lts
 use Rattle.evaluate.proofs.link_value.Reads as link-value-reads
-use Rattle.evaluate.proofs.operand.Reads as operand-reads
+use Rattle.evaluate.proofs.value_in.Reads as value-in-reads
 use Rattle.evaluate.proofs.operate.Reads as operate-reads
 
 -- src/lib.rt:101:14
@@ -20,12 +22,12 @@ sub-operate : tie.Need-sub-operate
 sub-operate c = search needs
 
 -- src/lib.rt:102:60
-operand-requires : tie.Need-operand-requires
-operand-requires c κs = search needs
+value-in-requires : tie.Need-value-in-requires
+value-in-requires c κs = search needs
 
 -- src/lib.rt:102:78
-operand-requires-2 : tie.Need-operand-requires-2
-operand-requires-2 c κs = search needs
+value-in-requires-2 : tie.Need-value-in-requires-2
+value-in-requires-2 c κs = search needs
 
 -- src/lib.rt:102:30
 operate-requires : tie.Need-operate-requires
@@ -50,7 +52,8 @@ returns-3 c = rw (c .before .match .keys3) (c .link-value .ensures)
 returns-4 : tie.Need-returns-4
 unfolding conditionRowBy valueBy
 returns-4 c = let m = c .before .before .before .before .match .rest in
-    rw (ne-eqb _ 0 (m .0 .0 .1), ne-eqb _ 1 (m .0 .1), ne-eqb _ 2 (m .1), lt-ltb _ 7 (c .before .before .before .if1 .taken)) cc
+    let a = c .before .before .before .before .before .args in
+    rw (ne-eqb _ 0 (m .0 .0 .1), ne-eqb _ 1 (m .0 .1), ne-eqb _ 2 (m .1), lt-ltb _ 7 (c .before .before .before .if1 .taken), getD-any (a .vals .now) (a .a) 1 0 (omega arith), getD-any (a .vals .now) (a .b) 1 0 (omega arith)) cc
 
 -- src/lib.rt:94:1
 returns-5 : tie.Need-returns-5
@@ -64,8 +67,8 @@ value-by-spec =
     (tie.spec
     link-value-requires
     sub-operate
-    operand-requires
-    operand-requires-2
+    value-in-requires
+    value-in-requires-2
     operate-requires
     returns
     returns-2

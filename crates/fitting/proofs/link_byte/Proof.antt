@@ -1,10 +1,10 @@
 use Rattle.fitting.proofs.ByKind.{getD-past}
 use native.Mathlib.Omega.{arith}
 use borrow.Author.Needs.{needs}
-use Rattle.fitting.proofs.link_value.Statement.{statement}
-use Rattle.fitting.proofs.link_value.Tie as tie
-use Rattle.fitting.proofs.link_value.Reads as reads
-use Rattle.fitting.proofs.link_value.Lts as lts
+use Rattle.fitting.proofs.link_byte.Statement.{statement}
+use Rattle.fitting.proofs.link_byte.Tie as tie
+use Rattle.fitting.proofs.link_byte.Reads as reads
+use Rattle.fitting.proofs.link_byte.Lts as lts
 
 -- src/lib.rt:97:16
 element-copy-out-result : tie.Need-element-copy-out-result
@@ -18,5 +18,5 @@ returns c = search needs
 returns-2 : tie.Need-returns-2
 returns-2 c = getD-past (c .before .args .links .now) (c .before .args .link) (omega arith)
 
-pub link-value-spec : {M : Type 1} → statement M
-link-value-spec = tie.close (tie.spec element-copy-out-result returns returns-2)
+pub link-byte-spec : {M : Type 1} → statement M
+link-byte-spec = tie.close (tie.spec element-copy-out-result returns returns-2)
