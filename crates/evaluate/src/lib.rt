@@ -5,7 +5,7 @@ ghost use lib.ListN.{length, getD};
 ghost use Rattle.conditions.specs.Operators.{table};
 ghost use Rattle.conditions.specs.Numbers.{digit, undigit};
 ghost use Rattle.conditions.specs.ByRows.{strictly, operate, valueBy};
-ghost use Rattle.sheet.specs.Table.{operatorOf, conditionRowBy, conditionRowAt, lazyOf, evaluationOf, evalOf};
+ghost use Rattle.sheet.specs.Table.{operatorOf, conditionRowBy, conditionRowAt, lazyOf, evaluationOf};
 ghost use Rattle.evaluate.specs.Values.{linksIn, Evaluated, valueIn};
 
 // One value a condition row.

@@ -3,39 +3,28 @@ use native.Mathlib.Omega.{arith}
 use borrow.Author.Needs.{needs}
 use Rattle.codec.proofs.conditions_in.Statement.{statement}
 use Rattle.codec.proofs.conditions_in.Tie as tie
-use Rattle.codec.proofs.conditions_in.Reads as reads
-use Rattle.codec.proofs.conditions_in.Lts as lts
-use Rattle.codec.proofs.two.Reads as two-reads
 
--- src/lib.rt:123:22
 two-requires : tie.Need-two-requires
 two-requires c κs = let w = c .before .pre .long in omega arith
 
--- src/lib.rt:123:17
 add-start : tie.Need-add-start
 add-start c = search needs
 
--- src/lib.rt:124:23
 two-requires-2 : tie.Need-two-requires-2
 two-requires-2 c κs = let w = c .before .before .pre .long in omega arith
 
--- src/lib.rt:124:15
 add-end : tie.Need-add-end
 add-end c = search needs
 
--- src/lib.rt:125:5
 sub-result : tie.Need-sub-result
 sub-result c = search needs
 
--- src/lib.rt:125:5
 part-result-start : tie.Need-part-result-start
 part-result-start c = search needs
 
--- src/lib.rt:125:5
 part-result-end : tie.Need-part-result-end
 part-result-end c = let b = bodies _ (c .before .before .before .pre .sound) in omega (arith, b .ends, c .before .two .ensures .0, c .two2 .ensures .0)
 
--- src/lib.rt:119:1
 returns : tie.Need-returns
 returns c = conditions-part _ _ _ (c .before .before .two .ensures .0) (c .before .two2 .ensures .0)
 

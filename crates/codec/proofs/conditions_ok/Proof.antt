@@ -2,41 +2,28 @@ use Rattle.codec.proofs.Reading.{conditions-by}
 use borrow.Author.Needs.{needs}
 use Rattle.codec.proofs.conditions_ok.Statement.{statement}
 use Rattle.codec.proofs.conditions_ok.Tie as tie
-use Rattle.codec.proofs.conditions_ok.Reads as reads
-use Rattle.codec.proofs.conditions_ok.Lts as lts
-use Rattle.codec.proofs.entry_ok.Reads as entry-ok-reads
-use Rattle.codec.proofs.in_fours.Reads as in-fours-reads
-use Rattle.codec.proofs.two.Reads as two-reads
 
--- src/lib.rt:73:9
 two-requires : tie.Need-two-requires
 two-requires c κs = search needs
 
--- src/lib.rt:74:9
 two-requires-2 : tie.Need-two-requires-2
 two-requires-2 c κs = search needs
 
--- src/lib.rt:75:24
 add-entry-ok : tie.Need-add-entry-ok
 add-entry-ok c = search needs
 
--- src/lib.rt:75:5
 entry-ok-requires : tie.Need-entry-ok-requires
 entry-ok-requires c κs = search needs
 
--- src/lib.rt:75:35
 in-fours-requires : tie.Need-in-fours-requires
 in-fours-requires c κs = search needs
 
--- src/lib.rt:75:59
 add-result : tie.Need-add-result
 add-result c = search needs
 
--- src/lib.rt:75:53
 add-result-2 : tie.Need-add-result-2
 add-result-2 c = search needs
 
--- src/lib.rt:69:1
 returns : tie.Need-returns
 returns c = conditions-by _ _ _ _ _ (c .before .before .before .two .ensures .0) (c .before .before .two2 .ensures .0) (c .before .entry-ok .ensures) (c .in-fours .ensures)
 

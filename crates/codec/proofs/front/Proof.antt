@@ -3,50 +3,37 @@ use mathlib.Core.Path.{refl}
 use borrow.Author.Needs.{needs}
 use Rattle.codec.proofs.front.Statement.{statement}
 use Rattle.codec.proofs.front.Tie as tie
-use Rattle.codec.proofs.front.Reads as reads
-use Rattle.codec.proofs.front.Lts as lts
 
--- src/lib.rt:194:13
 mul-t : tie.Need-mul-t
 mul-t c = search needs
 
--- src/lib.rt:195:13
 mul-c : tie.Need-mul-c
 mul-c c = search needs
 
--- src/lib.rt:196:17
 add-start : tie.Need-add-start
 add-start c = search needs
 
--- src/lib.rt:207:9
 cast-t6 : tie.Need-cast-t6
 cast-t6 c = search needs
 
--- src/lib.rt:208:9
 cast-t8 : tie.Need-cast-t8
 cast-t8 c = search needs
 
--- src/lib.rt:210:9
 cast-t10 : tie.Need-cast-t10
 cast-t10 c = search needs
 
--- src/lib.rt:211:9
 cast-t12 : tie.Need-cast-t12
 cast-t12 c = search needs
 
--- src/lib.rt:212:9
 cast-t14 : tie.Need-cast-t14
 cast-t14 c = search needs
 
--- src/lib.rt:213:9
 cast-t16 : tie.Need-cast-t16
 cast-t16 c = search needs
 
--- src/lib.rt:215:9
 cast-t17 : tie.Need-cast-t17
 cast-t17 c = search needs
 
--- src/lib.rt:190:1
 returns : tie.Need-returns
 unfolding front
 returns c = refl

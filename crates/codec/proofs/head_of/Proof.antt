@@ -2,32 +2,22 @@ use Rattle.codec.proofs.Reading.{head-by}
 use borrow.Author.Needs.{needs}
 use Rattle.codec.proofs.head_of.Statement.{statement}
 use Rattle.codec.proofs.head_of.Tie as tie
-use Rattle.codec.proofs.head_of.Reads as reads
-use Rattle.codec.proofs.head_of.Lts as lts
-use Rattle.codec.proofs.two.Reads as two-reads
-use Rattle.codec.proofs.wide.Reads as wide-reads
 
--- src/lib.rt:103:21
 shared-slice-read-t3 : tie.Need-shared-slice-read-t3
 shared-slice-read-t3 c = search needs
 
--- src/lib.rt:104:17
 shared-slice-read-wide : tie.Need-shared-slice-read-wide
 shared-slice-read-wide c = search needs
 
--- src/lib.rt:104:12
 wide-requires : tie.Need-wide-requires
 wide-requires c κs = search needs
 
--- src/lib.rt:105:12
 two-requires : tie.Need-two-requires
 two-requires c κs = search needs
 
--- src/lib.rt:106:12
 two-requires-2 : tie.Need-two-requires-2
 two-requires-2 c κs = search needs
 
--- src/lib.rt:98:1
 returns : tie.Need-returns
 returns c = head-by _ _ _ _ (c .before .before .wide .ensures) (c .before .two .ensures .0) (c .two2 .ensures .0)
 

@@ -5,45 +5,32 @@ use Rattle.codec.proofs.Reading.{too-short, too-long, contents-refused,
 use borrow.Author.Needs.{needs}
 use Rattle.codec.proofs.read.Statement.{statement}
 use Rattle.codec.proofs.read.Tie as tie
-use Rattle.codec.proofs.read.Reads as reads
-use Rattle.codec.proofs.read.Lts as lts
-use Rattle.codec.proofs.bad_contents.Reads as bad-contents-reads
-use Rattle.codec.proofs.head_of.Reads as head-of-reads
-use Rattle.codec.proofs.judge_parts.Reads as judge-parts-reads
 
--- src/lib.rt:143:9
 returns : tie.Need-returns
 unfolding readOf
 returns c = too-short sheet.Refused _ (c .before .before .args .s .now) (c .if1 .taken)
 
--- src/lib.rt:146:9
 returns-2 : tie.Need-returns-2
 unfolding readOf
 returns-2 c = too-long sheet.Refused _ (c .before .before .before .args .s .now) (c .before .if1 .left) (c .if2 .taken)
 
--- src/lib.rt:148:9
 bad-contents-requires : tie.Need-bad-contents-requires
 bad-contents-requires c κs = search needs
 
--- src/lib.rt:150:9
 returns-3 : tie.Need-returns-3
 unfolding readOf
 returns-3 c = contents-refused sheet.Refused _ (c .before .before .before .before .before .args .s .now) (c .before .before .before .if1 .left) (c .before .before .if2 .left) _ (c .before .bad-contents .ensures) (c .if3 .taken)
 
--- src/lib.rt:152:9
 judge-parts-requires : tie.Need-judge-parts-requires
 judge-parts-requires c κs = framed sheet.Refused (sheet.Refused 0 0) (c .before .before .before .before .before .args .s .now) (c .before .before .before .if1 .left) (c .before .before .if2 .left) _ (c .before .bad-contents .ensures) (c .if3 .left)
 
--- src/lib.rt:156:9
 returns-4 : tie.Need-returns-4
 unfolding readOf
 returns-4 c = parts-refused sheet.Refused _ (c .before .before .before .before .before .before .before .args .s .now) (c .before .before .before .before .before .if1 .left) (c .before .before .before .before .if2 .left) _ (c .before .before .before .bad-contents .ensures) (c .before .before .if3 .left) _ (c .before .judge-parts .ensures) (c .if4 .taken)
 
--- src/lib.rt:158:24
 head-of-requires : tie.Need-head-of-requires
 head-of-requires c κs = search needs
 
--- src/lib.rt:138:1
 returns-5 : tie.Need-returns-5
 unfolding readOf
 returns-5 c = ap sheet.Sheet (c .head-of .ensures) ∙ parts-accepted sheet.Refused _ (c .before .before .before .before .before .before .before .before .args .s .now) (c .before .before .before .before .before .before .if1 .left) (c .before .before .before .before .before .if2 .left) _ (c .before .before .before .before .bad-contents .ensures) (c .before .before .before .if3 .left) _ (c .before .before .judge-parts .ensures) (c .before .if4 .left)

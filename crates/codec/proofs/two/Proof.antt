@@ -4,39 +4,28 @@ use native.Mathlib.Omega.{arith}
 use borrow.Author.Needs.{needs}
 use Rattle.codec.proofs.two.Statement.{statement}
 use Rattle.codec.proofs.two.Tie as tie
-use Rattle.codec.proofs.two.Reads as reads
-use Rattle.codec.proofs.two.Lts as lts
-use Rattle.codec.proofs.wide.Reads as wide-reads
 
--- src/lib.rt:37:20
 shared-slice-read-wide : tie.Need-shared-slice-read-wide
 shared-slice-read-wide c = search needs
 
--- src/lib.rt:37:15
 wide-requires : tie.Need-wide-requires
 wide-requires c κs = search needs
 
--- src/lib.rt:38:23
 add-wide : tie.Need-add-wide
 add-wide c = search needs
 
--- src/lib.rt:38:21
 shared-slice-read-wide-2 : tie.Need-shared-slice-read-wide-2
 shared-slice-read-wide-2 c = search needs
 
--- src/lib.rt:38:16
 wide-requires-2 : tie.Need-wide-requires-2
 wide-requires-2 c κs = search needs
 
--- src/lib.rt:39:11
 mul-result : tie.Need-mul-result
 mul-result c = omega (arith, c .before .shared-slice-known3 .given (c .before .before .before .before .before .args .at + 1), c .before .before .before .shared-slice-known2 .given (c .before .before .before .before .before .args .at))
 
--- src/lib.rt:39:5
 add-result : tie.Need-add-result
 add-result c = omega (arith, c .before .shared-slice-known3 .given (c .before .before .before .before .before .args .at + 1), c .before .before .before .shared-slice-known2 .given (c .before .before .before .before .before .args .at))
 
--- src/lib.rt:33:1
 returns : tie.Need-returns
 returns c = (number-by _ _ _ _ (c .before .before .wide .ensures) (c .wide2 .ensures), omega (arith, c .before .shared-slice-known3 .given (c .before .before .before .before .before .args .at + 1), c .before .before .before .shared-slice-known2 .given (c .before .before .before .before .before .args .at)))
 

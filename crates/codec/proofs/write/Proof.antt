@@ -7,71 +7,51 @@ use native.Mathlib.Omega.{arith}
 use borrow.Author.Needs.{needs}
 use Rattle.codec.proofs.write.Statement.{statement}
 use Rattle.codec.proofs.write.Tie as tie
-use Rattle.codec.proofs.write.Reads as reads
-use Rattle.codec.proofs.write.Lts as lts
-use Rattle.codec.proofs.copy.Reads as copy-reads
-use Rattle.codec.proofs.front.Reads as front-reads
-use Rattle.judge.proofs.judge.Reads as judge-reads
 
--- src/lib.rt:235:9
 judge-requires : tie.Need-judge-requires
 judge-requires c κs = search needs
 
--- src/lib.rt:239:9
 returns : tie.Need-returns
 unfolding writeOf writtenOf
 returns c = (write-refused size.Refused _ _ _ _ _ _ (c .before .judge .ensures) (c .if1 .taken), write-refused _ _ _ _ _ _ _ (c .before .judge .ensures) (c .if1 .taken))
 
--- src/lib.rt:241:13
 mul-t : tie.Need-mul-t
 mul-t c = let w = accepted-form _ _ (c .before .before .judge .ensures) (c .before .if1 .left) in omega (arith, w .few-terms)
 
--- src/lib.rt:242:13
 mul-c : tie.Need-mul-c
 mul-c c = let w = accepted-form _ _ (c .before .before .before .judge .ensures) (c .before .before .if1 .left) in omega (arith, w .few-conditions)
 
--- src/lib.rt:243:22
 add-size : tie.Need-add-size
 add-size c = let w = accepted-form _ _ (c .before .before .before .judge .ensures) (c .before .before .if1 .left) in omega (arith, w .few-terms, w .few-conditions)
 
--- src/lib.rt:243:16
 add-size-2 : tie.Need-add-size-2
 add-size-2 c = let w = accepted-form _ _ (c .before .before .before .judge .ensures) (c .before .before .if1 .left) in omega (arith, w .few-terms, w .few-conditions)
 
--- src/lib.rt:245:9
 returns-2 : tie.Need-returns-2
 unfolding writeOf writtenOf
 returns-2 c = (write-short size.Refused _ _ _ _ _ _ (c .before .before .before .before .judge .ensures) (c .before .before .before .if1 .left) (c .if2 .taken), write-short _ _ _ _ _ _ _ (c .before .before .before .before .judge .ensures) (c .before .before .before .if1 .left) (c .if2 .taken))
 
--- src/lib.rt:247:17
 front-requires : tie.Need-front-requires
 front-requires c κs = let w = accepted-form _ _ (c .before .before .before .before .judge .ensures) (c .before .before .before .if1 .left) in (w .few-links, (w .few-terms, w .few-conditions))
 
--- src/lib.rt:248:18
 slice-aggregate-copy : tie.Need-slice-aggregate-copy
 slice-aggregate-copy c = search needs
 
--- src/lib.rt:248:5
 copy-requires : tie.Need-copy-requires
 copy-requires c κs = search needs
 
--- src/lib.rt:249:5
 copy-requires-2 : tie.Need-copy-requires-2
 copy-requires-2 c κs = let w = accepted-form _ _ (c .before .before .before .before .before .before .before .before .before .before .before .judge .ensures) (c .before .before .before .before .before .before .before .before .before .before .if1 .left) in (omega (arith, c .before .before .before .before .before .before .before .if2 .left), omega (arith, w .terms-lent))
 
--- src/lib.rt:250:15
 add-copy : tie.Need-add-copy
 add-copy c = search needs
 
--- src/lib.rt:250:5
 copy-requires-3 : tie.Need-copy-requires-3
 copy-requires-3 c κs = let w = accepted-form _ _ (c .before .before .before .before .before .before .before .before .before .before .before .before .before .before .before .judge .ensures) (c .before .before .before .before .before .before .before .before .before .before .before .before .before .before .if1 .left) in (omega (arith, c .before .before .before .before .before .before .before .before .before .before .before .if2 .left), omega (arith, w .conditions-lent))
 
--- src/lib.rt:232:1
 same-length : tie.Need-same-length
 same-length c = search needs
 
--- src/lib.rt:232:1
 returns-3 : tie.Need-returns-3
 unfolding writeOf writtenOf
 returns-3 c = let a = c .before .before .before .before .before .before .before .before .before .before .before .before .before .before .before .before .before .before .before .before .before .before .args in

@@ -4,40 +4,28 @@ use native.Mathlib.Omega.{arith}
 use borrow.Author.Needs.{needs}
 use Rattle.costs.proofs.split.Statement.{statement}
 use Rattle.costs.proofs.split.Tie as tie
-use Rattle.costs.proofs.split.Reads as reads
-use Rattle.costs.proofs.split.Lts as lts
-use Rattle.costs.proofs.run.Reads as run-reads
-use Rattle.costs.proofs.wide.Reads as wide-reads
 
--- src/main.rt:118:9
 wide-requires : tie.Need-wide-requires
 wide-requires c κs = search needs
 
--- src/main.rt:120:9
 returns : tie.Need-returns
 returns c = search needs
 
--- src/main.rt:122:32
 slice-aggregate-run : tie.Need-slice-aggregate-run
 slice-aggregate-run c = sym (length-take-le _ _ (omega arith))
 
--- src/main.rt:122:45
 sub-run : tie.Need-sub-run
 sub-run c = search needs
 
--- src/main.rt:122:45
 part-run-start : tie.Need-part-run-start
 part-run-start c = search needs
 
--- src/main.rt:122:45
 part-run-end : tie.Need-part-run-end
 part-run-end c = search needs
 
--- src/main.rt:122:5
 run-requires : tie.Need-run-requires
 run-requires c κs = search needs
 
--- src/main.rt:117:1
 returns-2 : tie.Need-returns-2
 returns-2 c = search needs
 

@@ -25,7 +25,6 @@ gather-at t = and 2 gather-kinds.ps (is 2 gather-kinds.ps μ-gather t) gather.Pr
 abbrev gather-below : ℕ → In 2 gather-kinds.ps
 gather-below t = and 2 gather-kinds.ps (falls 2 gather-kinds.ps _<_ μ-gather t) gather.Pre
 
--- src/lib.rt:55:9
 gather-returns : (t : ℕ) → gather-lts.Need-returns (
   kept-first-reads.Asked,
   kept-first-reads.Learnt,
@@ -38,7 +37,6 @@ gather-returns : (t : ℕ) → gather-lts.Need-returns (
 ) (gather-at t) gather.Post
 gather-returns t c = gathers-none _ (λ l. sets-past _ _ (c .before .before .pre .1 .1 .1) _ l _ (c .if1 .taken))
 
--- src/lib.rt:57:16
 gather-element-copy-out-mark : (t : ℕ) → gather-lts.Need-element-copy-out-mark (
   kept-first-reads.Asked,
   kept-first-reads.Learnt,
@@ -51,7 +49,6 @@ gather-element-copy-out-mark : (t : ℕ) → gather-lts.Need-element-copy-out-ma
 ) (gather-at t) gather.Post
 gather-element-copy-out-mark t c = omega arith
 
--- src/lib.rt:58:34
 gather-kept-first-requires : (t : ℕ) → gather-lts.Need-kept-first-requires (
   kept-first-reads.Asked,
   kept-first-reads.Learnt,
@@ -64,7 +61,6 @@ gather-kept-first-requires : (t : ℕ) → gather-lts.Need-kept-first-requires (
 ) (gather-at t) gather.Post
 gather-kept-first-requires t c κs = omega arith
 
--- src/lib.rt:58:9
 gather-gather-requires : (t : ℕ) → gather-lts.Need-gather-requires (
   kept-first-reads.Asked,
   kept-first-reads.Learnt,
@@ -77,7 +73,6 @@ gather-gather-requires : (t : ℕ) → gather-lts.Need-gather-requires (
 ) (gather-at t) gather.Post
 gather-gather-requires t c κs = let p = c .before .before .before .before in let z = first-above (p .args .row) (p .args .n) (getD (p .args .marks .now) (p .args .row) 0) (rowAt (p .args .ts .now) (p .args .row)) (c .before .before .if1 .left) (p .pre .1 .1 .1 _ (c .before .before .if1 .left)) in (omega (arith, z, c .kept-first .ensures), p .pre .1)
 
--- src/lib.rt:59:34
 gather-kept-second-requires : (t : ℕ) → gather-lts.Need-kept-second-requires (
   kept-first-reads.Asked,
   kept-first-reads.Learnt,
@@ -90,7 +85,6 @@ gather-kept-second-requires : (t : ℕ) → gather-lts.Need-kept-second-requires
 ) (gather-at t) gather.Post
 gather-kept-second-requires t c κs = omega arith
 
--- src/lib.rt:59:9
 gather-gather-requires-2 : (t : ℕ) → gather-lts.Need-gather-requires-2 (
   kept-first-reads.Asked,
   kept-first-reads.Learnt,
@@ -103,7 +97,6 @@ gather-gather-requires-2 : (t : ℕ) → gather-lts.Need-gather-requires-2 (
 ) (gather-at t) gather.Post
 gather-gather-requires-2 t c κs = let p = c .before .before .before .before .before .before in let z = second-above (p .args .row) (p .args .n) (getD (p .args .marks .now) (p .args .row) 0) (rowAt (p .args .ts .now) (p .args .row)) (c .before .before .before .before .if1 .left) (p .pre .1 .1 .1 _ (c .before .before .before .before .if1 .left)) in (omega (arith, z, c .kept-second .ensures), p .pre .1)
 
--- src/lib.rt:60:5
 gather-own-bit-requires : (t : ℕ) → gather-lts.Need-own-bit-requires (
   kept-first-reads.Asked,
   kept-first-reads.Learnt,
@@ -116,7 +109,6 @@ gather-own-bit-requires : (t : ℕ) → gather-lts.Need-own-bit-requires (
 ) (gather-at t) gather.Post
 gather-own-bit-requires t c κs = omega arith
 
--- src/lib.rt:50:1
 gather-returns-2 : (t : ℕ) → gather-lts.Need-returns-2 (
   kept-first-reads.Asked,
   kept-first-reads.Learnt,

@@ -6,72 +6,49 @@ use Rattle.effects.proofs.Climbing.{decided-no, decided-plain, decided-
 use borrow.Author.Needs.{needs}
 use Rattle.effects.proofs.decide_above.Statement.{statement}
 use Rattle.effects.proofs.decide_above.Tie as tie
-use Rattle.effects.proofs.decide_above.Reads as reads
-use Rattle.effects.proofs.decide_above.Lts as lts
-use Rattle.effects.proofs.falsifies.Reads as falsifies-reads
-use Rattle.effects.proofs.falsify_below.Reads as falsify-below-reads
-use Rattle.effects.proofs.waiting_pick.Reads as waiting-pick-reads
-use Rattle.rows.proofs.first.Reads as first-reads
-use Rattle.rows.proofs.second.Reads as second-reads
-use Rattle.state.proofs.State.decide.Reads as decide-reads
 
--- src/lib.rt:109:29
 element-copy-out-waiting-pick : tie.Need-element-copy-out-waiting-pick
 element-copy-out-waiting-pick c = search needs
 
--- src/lib.rt:109:9
 waiting-pick-requires : tie.Need-waiting-pick-requires
 waiting-pick-requires c κs = search needs
 
--- src/lib.rt:110:9
 returns : tie.Need-returns
 returns c = decided-no _ _ _ _ _ _ (c .before .before .before .before .pre .1 .1 .1 .1 .0) (sym (c .before .waiting-pick .ensures) ∙ not-true _ (c .if1 .taken))
 
--- src/lib.rt:112:18
 second-requires : tie.Need-second-requires
 second-requires c κs = search needs
 
--- src/lib.rt:112:18
 cast-second : tie.Need-cast-second
 cast-second c = search needs
 
--- src/lib.rt:114:25
 cast-decide : tie.Need-cast-decide
 cast-decide c = search needs
 
--- src/lib.rt:114:9
 decide-requires : tie.Need-decide-requires
 decide-requires c κs = search needs
 
--- src/lib.rt:115:9
 falsifies-requires : tie.Need-falsifies-requires
 falsifies-requires c κs = search needs
 
--- src/lib.rt:116:9
 returns-2 : tie.Need-returns-2
 returns-2 c = decided-plain _ _ _ _ _ _ (c .before .before .before .before .before .before .before .before .pre .1 .1 .1 .1 .0) _ _ (sym (c .before .before .before .before .before .waiting-pick .ensures) ∙ not-false _ (c .before .before .before .before .if1 .left)) (c .before .before .before .second .ensures) (c .before .before .decide .ensures) (sym (c .before .falsifies .ensures) ∙ not-true _ (c .if2 .taken))
 
--- src/lib.rt:119:49
 first-requires : tie.Need-first-requires
 first-requires c κs = search needs
 
--- src/lib.rt:119:49
 cast-falsify-below : tie.Need-cast-falsify-below
 cast-falsify-below c = search needs
 
--- src/lib.rt:119:9
 falsify-below-requires : tie.Need-falsify-below-requires
 falsify-below-requires c κs = let q = c .before .before .before .before .before .before .before .before .before .before .before .before .pre in let h : c .before .before .before .before .before .before .before .before .before .before .before .before .args .p < c .before .before .before .before .before .before .before .before .before .before .before .before .args .n = omega arith in (q .0, (q .1 .0, (q .1 .1 .0, rw (c .first .ensures) (pick-branches _ _ _ _ (q .1 .1 .0 _ h) (sym (c .before .before .before .before .before .before .before .before .before .waiting-pick .ensures) ∙ not-false _ (c .before .before .before .before .before .before .before .before .if1 .left)) .0))))
 
--- src/lib.rt:119:9
 returns-3 : tie.Need-returns-3
 returns-3 c = c .falsify-below .ensures ∙ decided-right _ _ _ _ _ _ (c .before .before .before .before .before .before .before .before .before .before .before .before .before .pre .1 .1 .1 .1 .0) _ _ (sym (c .before .before .before .before .before .before .before .before .before .before .waiting-pick .ensures) ∙ not-false _ (c .before .before .before .before .before .before .before .before .before .if1 .left)) (c .before .before .before .before .before .before .before .before .second .ensures) (c .before .before .before .before .before .before .before .decide .ensures) (sym (c .before .before .before .before .before .before .falsifies .ensures) ∙ not-false _ (c .before .before .before .before .before .if2 .left)) (c .before .before .before .before .if3 .taken) _ (c .before .first .ensures)
 
--- src/lib.rt:121:5
 falsify-below-requires-2 : tie.Need-falsify-below-requires-2
 falsify-below-requires-2 c κs = let q = c .before .before .before .before .before .before .before .before .before .before .before .pre in let h : c .before .before .before .before .before .before .before .before .before .before .before .args .p < c .before .before .before .before .before .before .before .before .before .before .before .args .n = omega arith in (q .0, (q .1 .0, (q .1 .1 .0, rw (c .before .before .before .before .before .before .second .ensures) (pick-branches _ _ _ _ (q .1 .1 .0 _ h) (sym (c .before .before .before .before .before .before .before .before .waiting-pick .ensures) ∙ not-false _ (c .before .before .before .before .before .before .before .if1 .left)) .1))))
 
--- src/lib.rt:105:1
 returns-4 : tie.Need-returns-4
 returns-4 c = c .falsify-below2 .ensures ∙ decided-left _ _ _ _ _ _ (c .before .before .before .before .before .before .before .before .before .before .before .before .pre .1 .1 .1 .1 .0) _ _ (sym (c .before .before .before .before .before .before .before .before .before .waiting-pick .ensures) ∙ not-false _ (c .before .before .before .before .before .before .before .before .if1 .left)) (c .before .before .before .before .before .before .before .second .ensures) (c .before .before .before .before .before .before .decide .ensures) (sym (c .before .before .before .before .before .falsifies .ensures) ∙ not-false _ (c .before .before .before .before .if2 .left)) (c .before .before .before .if3 .left)
 

@@ -1,10 +1,7 @@
 use Rattle.effects.proofs.Climbing.{falsifies-by}
 use Rattle.effects.proofs.falsifies.Statement.{statement}
 use Rattle.effects.proofs.falsifies.Tie as tie
-use Rattle.effects.proofs.falsifies.Reads as reads
-use Rattle.effects.proofs.falsifies.Lts as lts
 
--- src/lib.rt:98:1
 returns : tie.Need-returns
 returns c = falsifies-by _
 

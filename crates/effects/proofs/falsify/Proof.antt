@@ -6,10 +6,6 @@ use Rattle.moves.specs.Steps.{falsifyFrom}
 use Rattle.effects.proofs.Climbing.{falsify-hit, falsify-miss, falsify-end}
 use Rattle.effects.proofs.falsify.Statement.{statement}
 use Rattle.effects.proofs.falsify.Tie as tie
-use Rattle.effects.proofs.falsify.Reads as reads
-use Rattle.effects.proofs.falsify.Lts as lts
-use Rattle.reach.proofs.reached.Reads as reached-reads
-use Rattle.state.proofs.State.set_link.Reads as set-link-reads
 
 abbrev Inv-loop : tie.InvT-loop
 Inv-loop word state₀ l₀ state l = (l ≤ 64) × (falsifyFrom (hasBit word) 0 64 state₀ ≡ falsifyFrom (hasBit word) l (64 - l) state)
@@ -17,43 +13,33 @@ Inv-loop word state₀ l₀ state l = (l ≤ 64) × (falsifyFrom (hasBit word) 0
 abbrev μ-loop : tie.MeasureT-loop
 μ-loop word state₀ l₀ state l = 64 - l
 
--- src/lib.rt:69:5
 loop-holds : tie.Need-loop-holds Inv-loop μ-loop
 loop-holds c = (omega arith, refl)
 
--- src/lib.rt:70:12
 reached-requires : tie.Need-reached-requires Inv-loop μ-loop
 reached-requires c κs = omega arith
 
--- src/lib.rt:71:13
 set-link-requires : tie.Need-set-link-requires Inv-loop μ-loop
 set-link-requires c κs = omega arith
 
--- src/lib.rt:72:13
 add-l : tie.Need-add-l Inv-loop μ-loop
 add-l c = omega arith
 
--- src/lib.rt:69:5
 loop-less : tie.Need-loop-less Inv-loop μ-loop
 loop-less c = omega arith
 
--- src/lib.rt:69:5
 loop-again : tie.Need-loop-again Inv-loop μ-loop
 loop-again c = let l = c .before .before .before .before .loop in (omega arith, l .inv .1 ∙ (falsify-hit (hasBit (c .before .before .before .before .before .args .word)) (l .l) (l .state) (omega arith) (sym (c .before .before .reached .ensures) ∙ c .before .if1 .taken) ∙ ap (falsifyFrom (hasBit (c .before .before .before .before .before .args .word)) (l .l + 1) (64 - (l .l + 1))) (sym (c .set-link .ensures))))
 
--- src/lib.rt:74:13
 add-l-2 : tie.Need-add-l-2 Inv-loop μ-loop
 add-l-2 c = omega arith
 
--- src/lib.rt:69:5
 loop-less-2 : tie.Need-loop-less-2 Inv-loop μ-loop
 loop-less-2 c = omega arith
 
--- src/lib.rt:69:5
 loop-again-2 : tie.Need-loop-again-2 Inv-loop μ-loop
 loop-again-2 c = let l = c .before .before .before .loop in (omega arith, l .inv .1 ∙ falsify-miss (hasBit (c .before .before .before .before .args .word)) (l .l) (l .state) (omega arith) (sym (c .before .reached .ensures) ∙ c .if1 .left))
 
--- src/lib.rt:64:1
 returns : tie.Need-returns Inv-loop μ-loop
 returns c = let l = c .before .loop in sym (l .inv .1 ∙ falsify-end (hasBit (c .before .before .args .word)) (l .l) (l .state) (omega arith))
 

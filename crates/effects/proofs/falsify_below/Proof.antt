@@ -3,20 +3,13 @@ use Rattle.effects.proofs.Climbing.{falsified-by}
 use borrow.Author.Needs.{needs}
 use Rattle.effects.proofs.falsify_below.Statement.{statement}
 use Rattle.effects.proofs.falsify_below.Tie as tie
-use Rattle.effects.proofs.falsify_below.Reads as reads
-use Rattle.effects.proofs.falsify_below.Lts as lts
-use Rattle.effects.proofs.falsify.Reads as falsify-reads
-use Rattle.effects.proofs.gather.Reads as gather-reads
 
--- src/lib.rt:85:13
 gather-requires : tie.Need-gather-requires
 gather-requires c κs = search needs
 
--- src/lib.rt:85:5
 falsify-requires : tie.Need-falsify-requires
 falsify-requires c κs = search needs
 
--- src/lib.rt:81:1
 returns : tie.Need-returns
 returns c = c .falsify .ensures ∙ falsified-by _ _ _ _ _ _ (c .before .before .before .pre .1 .1 .1) (c .before .gather .ensures)
 

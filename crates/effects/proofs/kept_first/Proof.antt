@@ -3,29 +3,20 @@ use mathlib.Core.Path.{sym, _∙_}
 use borrow.Author.Needs.{needs}
 use Rattle.effects.proofs.kept_first.Statement.{statement}
 use Rattle.effects.proofs.kept_first.Tie as tie
-use Rattle.effects.proofs.kept_first.Reads as reads
-use Rattle.effects.proofs.kept_first.Lts as lts
-use Rattle.front.proofs.keeps.Reads as keeps-reads
-use Rattle.rows.proofs.first.Reads as first-reads
 
--- src/lib.rt:32:8
 keeps-requires : tie.Need-keeps-requires
 keeps-requires c κs = search needs
 
--- src/lib.rt:33:16
 first-requires : tie.Need-first-requires
 first-requires c κs = search needs
 
--- src/lib.rt:33:16
 cast-result : tie.Need-cast-result
 cast-result c = search needs
 
--- src/lib.rt:33:9
 returns : tie.Need-returns
 unfolding keptFirst
 returns c = rw (c .first .ensures, sym (c .before .before .keeps .ensures) ∙ c .before .if1 .taken)
 
--- src/lib.rt:28:1
 returns-2 : tie.Need-returns-2
 unfolding keptFirst
 returns-2 c = rw (sym (c .before .keeps .ensures) ∙ c .if1 .left)

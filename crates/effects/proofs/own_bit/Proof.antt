@@ -6,49 +6,35 @@ use Rattle.effects.proofs.Climbing.{gathers-waits, gathers-other, gathe
 use borrow.Author.Needs.{needs}
 use Rattle.effects.proofs.own_bit.Statement.{statement}
 use Rattle.effects.proofs.own_bit.Tie as tie
-use Rattle.effects.proofs.own_bit.Reads as reads
-use Rattle.effects.proofs.own_bit.Lts as lts
-use Rattle.front.proofs.waiting_step.Reads as waiting-step-reads
-use Rattle.reach.proofs.bit.Reads as bit-reads
 
--- src/lib.rt:19:9
 waiting-step-requires : tie.Need-waiting-step-requires
 waiting-step-requires c κs = search needs
 
--- src/lib.rt:20:9
 returns : tie.Need-returns
 returns c = gathers-waits _ _ (sym (c .before .waiting-step .ensures) ∙ not-true _ (c .if1 .taken))
 
--- src/lib.rt:22:11
 mul-if2 : tie.Need-mul-if2
 mul-if2 c = search needs
 
--- src/lib.rt:22:8
 shared-slice-read-if2 : tie.Need-shared-slice-read-if2
 shared-slice-read-if2 c = search needs
 
--- src/lib.rt:23:9
 returns-2 : tie.Need-returns-2
 unfolding rowAt
 returns-2 c = gathers-other _ _ _ _ _ (ne-eqb _ 2 (c .if2 .taken))
 
--- src/lib.rt:25:19
 mul-bit : tie.Need-mul-bit
 mul-bit c = search needs
 
--- src/lib.rt:25:19
 add-bit : tie.Need-add-bit
 add-bit c = search needs
 
--- src/lib.rt:25:16
 shared-slice-read-bit : tie.Need-shared-slice-read-bit
 shared-slice-read-bit c = search needs
 
--- src/lib.rt:25:5
 bit-requires : tie.Need-bit-requires
 bit-requires c κs = search needs
 
--- src/lib.rt:15:1
 returns-3 : tie.Need-returns-3
 unfolding rowAt
 returns-3 c = gathers-out _ _ _ _ _ _ (c .before .before .if2 .left) (sym (c .before .before .before .before .before .waiting-step .ensures) ∙ not-false _ (c .before .before .before .before .if1 .left)) (c .bit .ensures)

@@ -5,68 +5,50 @@ use Rattle.effects.proofs.Climbing.{own-other, own-true, own-false, own
 use borrow.Author.Needs.{needs}
 use Rattle.effects.proofs.set_own.Statement.{statement}
 use Rattle.effects.proofs.set_own.Tie as tie
-use Rattle.effects.proofs.set_own.Reads as reads
-use Rattle.effects.proofs.set_own.Lts as lts
-use Rattle.effects.proofs.wide.Reads as wide-reads
-use Rattle.state.proofs.State.set_link.Reads as set-link-reads
 
--- src/lib.rt:156:11
 mul-if1 : tie.Need-mul-if1
 mul-if1 c = search needs
 
--- src/lib.rt:156:8
 shared-slice-read-if1 : tie.Need-shared-slice-read-if1
 shared-slice-read-if1 c = search needs
 
--- src/lib.rt:157:9
 returns : tie.Need-returns
 unfolding rowAt
 returns c = sym (own-other _ _ _ _ _ (ne-eqb _ 2 (c .if1 .taken)))
 
--- src/lib.rt:159:24
 mul-wide : tie.Need-mul-wide
 mul-wide c = search needs
 
--- src/lib.rt:159:24
 add-wide : tie.Need-add-wide
 add-wide c = search needs
 
--- src/lib.rt:159:21
 shared-slice-read-wide : tie.Need-shared-slice-read-wide
 shared-slice-read-wide c = search needs
 
--- src/lib.rt:159:9
 wide-requires : tie.Need-wide-requires
 wide-requires c κs = search needs
 
--- src/lib.rt:160:11
 mul-if2 : tie.Need-mul-if2
 mul-if2 c = search needs
 
--- src/lib.rt:160:11
 add-if2 : tie.Need-add-if2
 add-if2 c = search needs
 
--- src/lib.rt:160:8
 shared-slice-read-if2 : tie.Need-shared-slice-read-if2
 shared-slice-read-if2 c = search needs
 
--- src/lib.rt:161:9
 set-link-requires : tie.Need-set-link-requires
 unfolding rowAt
 set-link-requires c κs = own-below _ _ _ _ _ (c .before .before .before .before .if1 .left) (c .before .before .before .before .before .before .before .pre .1) (c .before .before .wide .ensures)
 
--- src/lib.rt:161:9
 returns-2 : tie.Need-returns-2
 unfolding rowAt
 returns-2 c = c .set-link .ensures ∙ (rw (c .before .before .before .wide .ensures) (sym (own-true _ _ _ _ _ (c .before .before .before .before .before .if1 .left) (c .before .if2 .taken))))
 
--- src/lib.rt:163:5
 set-link-requires-2 : tie.Need-set-link-requires-2
 unfolding rowAt
 set-link-requires-2 c κs = own-below _ _ _ _ _ (c .before .before .before .before .if1 .left) (c .before .before .before .before .before .before .before .pre .1) (c .before .before .wide .ensures)
 
--- src/lib.rt:152:1
 returns-3 : tie.Need-returns-3
 unfolding rowAt
 returns-3 c = c .set-link2 .ensures ∙ (rw (c .before .before .before .wide .ensures) (sym (own-false _ _ _ _ _ (c .before .before .before .before .before .if1 .left) (c .before .if2 .left))))

@@ -5,28 +5,20 @@ use Rattle.effects.proofs.Climbing.{waiting-pick-other, waiting-pick}
 use borrow.Author.Needs.{needs}
 use Rattle.effects.proofs.waiting_pick.Statement.{statement}
 use Rattle.effects.proofs.waiting_pick.Tie as tie
-use Rattle.effects.proofs.waiting_pick.Reads as reads
-use Rattle.effects.proofs.waiting_pick.Lts as lts
-use Rattle.front.proofs.undecided.Reads as undecided-reads
 
--- src/lib.rt:92:11
 mul-if1 : tie.Need-mul-if1
 mul-if1 c = search needs
 
--- src/lib.rt:92:8
 shared-slice-read-if1 : tie.Need-shared-slice-read-if1
 shared-slice-read-if1 c = search needs
 
--- src/lib.rt:93:9
 returns : tie.Need-returns
 unfolding rowAt
 returns c = sym (waiting-pick-other _ _ _ _ _ (ne-eqb _ 4 (c .if1 .taken)))
 
--- src/lib.rt:95:5
 undecided-requires : tie.Need-undecided-requires
 undecided-requires c κs = search needs
 
--- src/lib.rt:88:1
 returns-2 : tie.Need-returns-2
 unfolding rowAt
 returns-2 c = c .undecided .ensures ∙ waiting-pick _ _ _ _ _ (c .before .if1 .left)

@@ -3,28 +3,19 @@ use Rattle.engine.proofs.Known.{written-fits, written-short}
 use borrow.Author.Needs.{needs}
 use Rattle.engine.proofs.fill.Statement.{statement}
 use Rattle.engine.proofs.fill.Tie as tie
-use Rattle.engine.proofs.fill.Reads as reads
-use Rattle.engine.proofs.fill.Lts as lts
-use Rattle.engine.proofs.count.Reads as count-reads
-use Rattle.engine.proofs.write.Reads as write-reads
 
--- src/lib.rt:232:9
 count-requires : tie.Need-count-requires
 count-requires c κs = search needs
 
--- src/lib.rt:234:9
 returns : tie.Need-returns
 returns c = (c .before .count .ensures, written-short _ _ (omega arith))
 
--- src/lib.rt:236:5
 write-requires : tie.Need-write-requires
 write-requires c κs = let q = c .before .before .before .before .before .pre in (q .0, (q .1, omega arith))
 
--- src/lib.rt:220:1
 same-length : tie.Need-same-length
 same-length c = search needs
 
--- src/lib.rt:220:1
 returns-2 : tie.Need-returns-2
 returns-2 c = (c .before .before .before .before .before .count .ensures, written-fits _ _ _ (omega arith) (c .before .before .write .ensures))
 

@@ -3,25 +3,18 @@ use Rattle.engine.specs.ByValue.{joinKind}
 use borrow.Author.Needs.{needs}
 use Rattle.engine.proofs.join_kind.Statement.{statement}
 use Rattle.engine.proofs.join_kind.Tie as tie
-use Rattle.engine.proofs.join_kind.Reads as reads
-use Rattle.engine.proofs.join_kind.Lts as lts
-use Rattle.front.proofs.cleans.Reads as cleans-reads
 
--- src/lib.rt:36:9
 returns : tie.Need-returns
 unfolding joinKind
 returns c = rw (c .if1 .taken)
 
--- src/lib.rt:38:23
 cleans-requires : tie.Need-cleans-requires
 cleans-requires c κs = search needs
 
--- src/lib.rt:39:9
 returns-2 : tie.Need-returns-2
 unfolding joinKind
 returns-2 c = rw (ne-eqb _ 2 (c .before .before .if1 .left), ← (c .before .cleans .ensures), c .if2 .taken)
 
--- src/lib.rt:32:1
 returns-3 : tie.Need-returns-3
 unfolding joinKind
 returns-3 c = rw (ne-eqb _ 2 (c .before .before .if1 .left), ← (c .before .cleans .ensures), c .if2 .left)

@@ -3,25 +3,16 @@ use Rattle.engine.proofs.Known.{kind-known}
 use borrow.Author.Needs.{needs}
 use Rattle.engine.proofs.kind.Statement.{statement}
 use Rattle.engine.proofs.kind.Tie as tie
-use Rattle.engine.proofs.kind.Reads as reads
-use Rattle.engine.proofs.kind.Lts as lts
-use Rattle.engine.proofs.kind_from.Reads as kind-from-reads
-use Rattle.evaluate.proofs.values.Reads as values-reads
-use Rattle.front.proofs.ask.Reads as ask-reads
 
--- src/lib.rt:103:19
 ask-requires : tie.Need-ask-requires
 ask-requires c κs = search needs
 
--- src/lib.rt:104:16
 values-requires : tie.Need-values-requires
 values-requires c κs = search needs
 
--- src/lib.rt:105:5
 kind-from-requires : tie.Need-kind-from-requires
 kind-from-requires c κs = search needs
 
--- src/lib.rt:99:1
 returns : tie.Need-returns
 returns c = c .kind-from .ensures ∙ kind-known _ (c .before .before .before .before .before .before .before .before .before .before .before .before .before .pre) _ _ _ (record { seen-shows = c .before .before .before .before .before .before .before .before .ask .ensures; vals-known = c .before .before .before .before .before .values .ensures }) _
 

@@ -5,29 +5,19 @@ use Rattle.engine.proofs.Known.{list-known}
 use borrow.Author.Needs.{needs}
 use Rattle.engine.proofs.list.Statement.{statement}
 use Rattle.engine.proofs.list.Tie as tie
-use Rattle.engine.proofs.list.Reads as reads
-use Rattle.engine.proofs.list.Lts as lts
-use Rattle.engine.proofs.fill.Reads as fill-reads
-use Rattle.evaluate.proofs.values.Reads as values-reads
-use Rattle.front.proofs.ask.Reads as ask-reads
 
--- src/lib.rt:245:19
 ask-requires : tie.Need-ask-requires
 ask-requires c κs = search needs
 
--- src/lib.rt:246:16
 values-requires : tie.Need-values-requires
 values-requires c κs = search needs
 
--- src/lib.rt:247:5
 fill-requires : tie.Need-fill-requires
 fill-requires c κs = search needs
 
--- src/lib.rt:241:1
 same-length : tie.Need-same-length
 same-length c = search needs
 
--- src/lib.rt:241:1
 returns : tie.Need-returns
 returns c = let e = list-known _ (c .before .before .before .before .before .before .before .before .before .before .before .before .before .before .before .before .before .pre) _ _ _ (record { seen-shows = c .before .before .before .before .before .before .before .before .before .before .before .ask .ensures; vals-known = c .before .before .before .before .before .before .before .before .values .ensures }) in (c .before .before .fill .ensures .0 ∙ ap length e, c .before .before .fill .ensures .1 ∙ ap (λ xs. written xs (c .before .before .before .before .before .before .before .before .before .before .before .before .before .before .before .before .before .args .out .now)) e)
 

@@ -1,14 +1,10 @@
 use borrow.Author.Tests.{ne-eqb}
 use Rattle.engine.proofs.one.Statement.{statement}
 use Rattle.engine.proofs.one.Tie as tie
-use Rattle.engine.proofs.one.Reads as reads
-use Rattle.engine.proofs.one.Lts as lts
 
--- src/lib.rt:48:9
 returns : tie.Need-returns
 returns c = rw (c .if1 .taken)
 
--- src/lib.rt:44:1
 returns-2 : tie.Need-returns-2
 returns-2 c = rw (ne-eqb _ 1 (c .if1 .left))
 

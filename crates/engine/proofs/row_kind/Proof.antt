@@ -5,80 +5,58 @@ use Rattle.engine.proofs.Known.{kind-1, kind-2, kind-3, kind-other}
 use borrow.Author.Needs.{needs}
 use Rattle.engine.proofs.row_kind.Statement.{statement}
 use Rattle.engine.proofs.row_kind.Tie as tie
-use Rattle.engine.proofs.row_kind.Reads as reads
-use Rattle.engine.proofs.row_kind.Lts as lts
-use Rattle.engine.proofs.join_kind.Reads as join-kind-reads
-use Rattle.engine.proofs.one.Reads as one-reads
-use Rattle.evaluate.proofs.value_in.Reads as value-in-reads
 
--- src/lib.rt:64:14
 mul-at : tie.Need-mul-at
 mul-at c = search needs
 
--- src/lib.rt:65:11
 shared-slice-read-match : tie.Need-shared-slice-read-match
 shared-slice-read-match c = search needs
 
--- src/lib.rt:66:31
 add-t10 : tie.Need-add-t10
 add-t10 c = search needs
 
--- src/lib.rt:66:28
 shared-slice-read-t12 : tie.Need-shared-slice-read-t12
 shared-slice-read-t12 c = search needs
 
--- src/lib.rt:67:31
 add-t13 : tie.Need-add-t13
 add-t13 c = search needs
 
--- src/lib.rt:67:28
 shared-slice-read-t15 : tie.Need-shared-slice-read-t15
 shared-slice-read-t15 c = search needs
 
--- src/lib.rt:67:47
 add-one : tie.Need-add-one
 add-one c = search needs
 
--- src/lib.rt:67:44
 shared-slice-read-one : tie.Need-shared-slice-read-one
 shared-slice-read-one c = search needs
 
--- src/lib.rt:67:40
 one-requires : tie.Need-one-requires
 one-requires c κs = search needs
 
--- src/lib.rt:68:53
 add-value-in : tie.Need-add-value-in
 add-value-in c = search needs
 
--- src/lib.rt:68:50
 shared-slice-read-value-in : tie.Need-shared-slice-read-value-in
 shared-slice-read-value-in c = search needs
 
--- src/lib.rt:68:35
 value-in-requires : tie.Need-value-in-requires
 value-in-requires c κs = search needs
 
--- src/lib.rt:68:14
 join-kind-requires : tie.Need-join-kind-requires
 join-kind-requires c κs = search needs
 
--- src/lib.rt:60:1
 returns : tie.Need-returns
 unfolding rowAt
 returns c = kind-1 _ _ _ _ _ _ _ (c .before .match .keys1)
 
--- src/lib.rt:60:1
 returns-2 : tie.Need-returns-2
 unfolding rowAt
 returns-2 c = kind-2 _ _ _ _ _ _ _ _ (c .before .before .before .match .keys2) (c .one .ensures)
 
--- src/lib.rt:60:1
 returns-3 : tie.Need-returns-3
 unfolding rowAt
 returns-3 c = c .join-kind .ensures ∙ kind-3 _ _ _ _ _ _ _ _ (c .before .before .before .match .keys3) (c .before .value-in .ensures)
 
--- src/lib.rt:60:1
 returns-4 : tie.Need-returns-4
 unfolding rowAt
 returns-4 c = let m = c .match .rest in kind-other _ _ _ _ _ _ _ (ne-eqb _ 1 (m .0 .0 .1)) (ne-eqb _ 2 (m .0 .1)) (ne-eqb _ 3 (m .1))

@@ -4,69 +4,49 @@ use Rattle.engine.proofs.Known.{taken-needs, clean-needs, answer-taken,
 use borrow.Author.Needs.{needs}
 use Rattle.engine.proofs.take.Statement.{statement}
 use Rattle.engine.proofs.take.Tie as tie
-use Rattle.engine.proofs.take.Reads as reads
-use Rattle.engine.proofs.take.Lts as lts
-use Rattle.effects.proofs.dropped.Reads as dropped-reads
-use Rattle.effects.proofs.taken.Reads as taken-reads
-use Rattle.engine.proofs.kind.Reads as kind-reads
 
--- src/lib.rt:122:11
 kind-requires : tie.Need-kind-requires
 kind-requires c κs = search needs
 
--- src/lib.rt:123:23
 enum-known-a : tie.Need-enum-known-a
 enum-known-a c = search needs
 
--- src/lib.rt:126:20
 taken-requires : tie.Need-taken-requires
 taken-requires c κs = let w = c .before .before .before .before .before .before .pre in (w .terms-lent, (w .few-terms, (w .tree, taken-needs _ w _ _ _ (sym (c .before .a .given .1) ∙ c .before .before .before .kind .ensures) refl)))
 
--- src/lib.rt:128:23
 enum-known-l : tie.Need-enum-known-l
 enum-known-l c = search needs
 
--- src/lib.rt:131:20
 taken-requires-2 : tie.Need-taken-requires-2
 taken-requires-2 c κs = let w = c .before .before .before .before .before .before .pre in (w .terms-lent, (w .few-terms, (w .tree, taken-needs _ w _ _ _ (sym (c .before .l .given .1) ∙ c .before .before .before .kind .ensures) refl)))
 
--- src/lib.rt:135:21
 enum-told : tie.Need-enum-told
 enum-told c = search needs
 
--- src/lib.rt:136:20
 taken-requires-3 : tie.Need-taken-requires-3
 taken-requires-3 c κs = let w = c .before .before .before .before .before .pre in (w .terms-lent, (w .few-terms, (w .tree, taken-needs _ w _ _ _ (sym (c .enum-told .given .1) ∙ c .before .before .kind .ensures) refl)))
 
--- src/lib.rt:140:21
 enum-told-2 : tie.Need-enum-told-2
 enum-told-2 c = search needs
 
--- src/lib.rt:141:20
 dropped-requires : tie.Need-dropped-requires
 dropped-requires c κs = let w = c .before .before .before .before .before .pre in (w .terms-lent, (w .few-terms, (w .tree .kids, clean-needs _ w _ _ (sym (c .enum-told2 .given .1) ∙ c .before .before .kind .ensures))))
 
--- src/lib.rt:143:27
 enum-known-a-2 : tie.Need-enum-known-a-2
 enum-known-a-2 c = search needs
 
--- src/lib.rt:118:1
 returns : tie.Need-returns
 returns c = answer-taken _ _ _ _ (sym (c .before .before .a .given .1) ∙ c .before .before .before .before .kind .ensures) _ refl (c .taken .ensures)
 
--- src/lib.rt:118:1
 returns-2 : tie.Need-returns-2
 returns-2 c = answer-taken _ _ _ _ (sym (c .before .before .l .given .1) ∙ c .before .before .before .before .kind .ensures) _ refl (c .taken2 .ensures)
 
--- src/lib.rt:118:1
 returns-3 : tie.Need-returns-3
 returns-3 c = answer-taken _ _ _ _ (sym (c .before .enum-told .given .1) ∙ c .before .before .before .kind .ensures) _ refl (c .taken3 .ensures)
 
--- src/lib.rt:118:1
 returns-4 : tie.Need-returns-4
 returns-4 c = answer-clean _ _ _ _ (sym (c .before .enum-told2 .given .1) ∙ c .before .before .before .kind .ensures) _ refl (c .dropped .ensures)
 
--- src/lib.rt:118:1
 returns-5 : tie.Need-returns-5
 returns-5 c = answer-refused _ _ _ _ (sym (c .before .a2 .given .1) ∙ c .before .before .before .kind .ensures) refl
 

@@ -5,9 +5,6 @@ use Rattle.laws.proofs.Listed.{Written, written-none, written-hit, written-miss
 use Rattle.engine.specs.ByValue.{stepFrom}
 use Rattle.engine.proofs.write.Statement.{statement}
 use Rattle.engine.proofs.write.Tie as tie
-use Rattle.engine.proofs.write.Reads as reads
-use Rattle.engine.proofs.write.Lts as lts
-use Rattle.engine.proofs.has_step.Reads as has-step-reads
 
 abbrev Inv-loop : tie.InvT-loop
 Inv-loop ts n mode marks reached vals out₀ found₀ i₀ out found i = (i ≤ n) × Written (stepFrom ts n mode marks reached vals) n i found out out₀
@@ -15,55 +12,42 @@ Inv-loop ts n mode marks reached vals out₀ found₀ i₀ out found i = (i ≤ 
 abbrev μ-loop : tie.MeasureT-loop
 μ-loop ts n mode marks reached vals out₀ found₀ i₀ out found i = n - i
 
--- src/lib.rt:209:5
 loop-holds : tie.Need-loop-holds Inv-loop μ-loop
 loop-holds c = (omega arith, written-none _ _ _)
 
--- src/lib.rt:210:12
 has-step-requires : tie.Need-has-step-requires Inv-loop μ-loop
 has-step-requires c κs = let q = c .before .before .before .before .pre in (q .0, q .1 .0)
 
--- src/lib.rt:211:26
 cast-out : tie.Need-cast-out Inv-loop μ-loop
 cast-out c = omega arith
 
--- src/lib.rt:211:13
 slice-write-out : tie.Need-slice-write-out Inv-loop μ-loop
 slice-write-out c = let l = c .before .before .before .loop in omega (arith, written-room _ _ (l .i) (l .found) (l .out) _ (c .before .before .loop-test .taken) (sym (c .before .has-step .ensures) ∙ c .if1 .taken) (l .inv .1))
 
--- src/lib.rt:212:13
 add-found : tie.Need-add-found Inv-loop μ-loop
 add-found c = omega arith
 
--- src/lib.rt:213:13
 add-i : tie.Need-add-i Inv-loop μ-loop
 add-i c = omega arith
 
--- src/lib.rt:209:5
 loop-less : tie.Need-loop-less Inv-loop μ-loop
 loop-less c = omega arith
 
--- src/lib.rt:209:5
 loop-again : tie.Need-loop-again Inv-loop μ-loop
 loop-again c = let l = c .before .before .before .loop in (omega arith, written-hit _ _ (l .i) (l .found) (c .before .before .loop-test .taken) (l .out) _ (l .inv .1) (sym (c .before .has-step .ensures) ∙ c .if1 .taken) (omega arith))
 
--- src/lib.rt:215:13
 add-i-2 : tie.Need-add-i-2 Inv-loop μ-loop
 add-i-2 c = omega arith
 
--- src/lib.rt:209:5
 loop-less-2 : tie.Need-loop-less-2 Inv-loop μ-loop
 loop-less-2 c = omega arith
 
--- src/lib.rt:209:5
 loop-again-2 : tie.Need-loop-again-2 Inv-loop μ-loop
 loop-again-2 c = let l = c .before .before .before .loop in (omega arith, written-miss _ _ (l .i) (l .found) (c .before .before .loop-test .taken) (l .out) _ (l .inv .1) (sym (c .before .has-step .ensures) ∙ c .if1 .left))
 
--- src/lib.rt:195:1
 same-length : tie.Need-same-length Inv-loop μ-loop
 same-length c = c .before .loop .inv .1 .long
 
--- src/lib.rt:195:1
 returns : tie.Need-returns Inv-loop μ-loop
 returns c = written-end _ _ _ _ _ _ (c .loop-test .left) (c .before .loop .inv .1)
 

@@ -2,10 +2,7 @@ use mathlib.Core.Path.{refl}
 use Rattle.sheet.specs.Table.{lazyOf}
 use Rattle.evaluate.proofs.is_lazy.Statement.{statement}
 use Rattle.evaluate.proofs.is_lazy.Tie as tie
-use Rattle.evaluate.proofs.is_lazy.Reads as reads
-use Rattle.evaluate.proofs.is_lazy.Lts as lts
 
--- src/lib.rt:24:1
 returns : tie.Need-returns
 unfolding lazyOf
 returns c = refl

@@ -4,30 +4,20 @@ use Rattle.sheet.specs.Table.{evaluationOf}
 use borrow.Author.Needs.{needs}
 use Rattle.evaluate.proofs.operate.Statement.{statement}
 use Rattle.evaluate.proofs.operate.Tie as tie
-use Rattle.evaluate.proofs.operate.Reads as reads
-use Rattle.evaluate.proofs.operate.Lts as lts
-use Rattle.evaluate.proofs.by_table.Reads as by-table-reads
-use Rattle.evaluate.proofs.is_lazy.Reads as is-lazy-reads
-use Rattle.evaluate.proofs.strictly.Reads as strictly-reads
 
--- src/lib.rt:70:8
 is-lazy-requires : tie.Need-is-lazy-requires
 is-lazy-requires c κs = search needs
 
--- src/lib.rt:71:9
 by-table-requires : tie.Need-by-table-requires
 by-table-requires c κs = search needs
 
--- src/lib.rt:71:9
 returns : tie.Need-returns
 unfolding evaluationOf operate
 returns c = rw (sym (c .before .before .is-lazy .ensures) ∙ c .before .if1 .taken) (c .by-table .ensures)
 
--- src/lib.rt:73:5
 strictly-requires : tie.Need-strictly-requires
 strictly-requires c κs = search needs
 
--- src/lib.rt:66:1
 returns-2 : tie.Need-returns-2
 unfolding evaluationOf operate
 returns-2 c = rw (sym (c .before .before .is-lazy .ensures) ∙ c .before .if1 .left) (c .strictly .ensures)

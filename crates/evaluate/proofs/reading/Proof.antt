@@ -3,20 +3,15 @@ use Rattle.evaluate.proofs.Tables.{reads-true}
 use borrow.Author.Needs.{needs}
 use Rattle.evaluate.proofs.reading.Statement.{statement}
 use Rattle.evaluate.proofs.reading.Tie as tie
-use Rattle.evaluate.proofs.reading.Reads as reads
-use Rattle.evaluate.proofs.reading.Lts as lts
 
--- src/lib.rt:35:9
 returns : tie.Need-returns
 unfolding digit undigit
 returns c = (rw (c .if1 .taken), search needs)
 
--- src/lib.rt:38:9
 returns-2 : tie.Need-returns-2
 unfolding digit undigit
 returns-2 c = (rw (c .if2 .taken), search needs)
 
--- src/lib.rt:31:1
 returns-3 : tie.Need-returns-3
 returns-3 c = (reads-true _ (c .before .if1 .left) (c .if2 .left), search needs)
 

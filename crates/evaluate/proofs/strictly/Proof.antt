@@ -4,23 +4,16 @@ use Rattle.evaluate.proofs.Tables.{unset-left, unset-right, both-set}
 use borrow.Author.Needs.{needs}
 use Rattle.evaluate.proofs.strictly.Statement.{statement}
 use Rattle.evaluate.proofs.strictly.Tie as tie
-use Rattle.evaluate.proofs.strictly.Reads as reads
-use Rattle.evaluate.proofs.strictly.Lts as lts
-use Rattle.evaluate.proofs.by_table.Reads as by-table-reads
 
--- src/lib.rt:58:9
 returns : tie.Need-returns
 returns c = unset-left _ _ _ (c .if1 .taken)
 
--- src/lib.rt:61:9
 returns-2 : tie.Need-returns-2
 returns-2 c = unset-right _ _ _ (c .if2 .taken)
 
--- src/lib.rt:63:5
 by-table-requires : tie.Need-by-table-requires
 by-table-requires c κs = search needs
 
--- src/lib.rt:53:1
 returns-3 : tie.Need-returns-3
 returns-3 c = c .by-table .ensures ∙ ap digit (both-set _ _ _ (c .before .before .if1 .left) (c .before .if2 .left))
 

@@ -7,55 +7,40 @@ use Rattle.sheet.specs.Table.{conditionRowBy}
 use borrow.Author.Needs.{needs}
 use Rattle.evaluate.proofs.value_by.Statement.{statement}
 use Rattle.evaluate.proofs.value_by.Tie as tie
-use Rattle.evaluate.proofs.value_by.Reads as reads
-use Rattle.evaluate.proofs.value_by.Lts as lts
-use Rattle.evaluate.proofs.link_value.Reads as link-value-reads
-use Rattle.evaluate.proofs.value_in.Reads as value-in-reads
-use Rattle.evaluate.proofs.operate.Reads as operate-reads
 
--- src/lib.rt:101:14
 link-value-requires : tie.Need-link-value-requires
 link-value-requires c κs = search needs
 
--- src/lib.rt:102:50
 sub-operate : tie.Need-sub-operate
 sub-operate c = search needs
 
--- src/lib.rt:102:60
 value-in-requires : tie.Need-value-in-requires
 value-in-requires c κs = search needs
 
--- src/lib.rt:102:78
 value-in-requires-2 : tie.Need-value-in-requires-2
 value-in-requires-2 c κs = search needs
 
--- src/lib.rt:102:30
 operate-requires : tie.Need-operate-requires
 operate-requires c κs = search needs
 
--- src/lib.rt:94:1
 returns : tie.Need-returns
 unfolding conditionRowBy valueBy digit
 returns c = rw (c .match .keys1)
 
--- src/lib.rt:94:1
 returns-2 : tie.Need-returns-2
 unfolding conditionRowBy valueBy digit
 returns-2 c = rw (c .match .keys2)
 
--- src/lib.rt:94:1
 returns-3 : tie.Need-returns-3
 unfolding conditionRowBy valueBy
 returns-3 c = rw (c .before .match .keys3) (c .link-value .ensures)
 
--- src/lib.rt:94:1
 returns-4 : tie.Need-returns-4
 unfolding conditionRowBy valueBy
 returns-4 c = let m = c .before .before .before .before .match .rest in
     let a = c .before .before .before .before .before .args in
     rw (ne-eqb _ 0 (m .0 .0 .1), ne-eqb _ 1 (m .0 .1), ne-eqb _ 2 (m .1), lt-ltb _ 7 (c .before .before .before .if1 .taken), getD-any (a .vals .now) (a .a) 1 0 (omega arith), getD-any (a .vals .now) (a .b) 1 0 (omega arith)) cc
 
--- src/lib.rt:94:1
 returns-5 : tie.Need-returns-5
 unfolding conditionRowBy valueBy digit
 returns-5 c = let m = c .before .match .rest in

@@ -5,9 +5,6 @@ use Rattle.evaluate.proofs.Rows.{evaluated-none, evaluated-long, evalua
 use native.Mathlib.Omega.{arith}
 use Rattle.evaluate.proofs.values.Statement.{statement}
 use Rattle.evaluate.proofs.values.Tie as tie
-use Rattle.evaluate.proofs.values.Reads as reads
-use Rattle.evaluate.proofs.values.Lts as lts
-use Rattle.evaluate.proofs.step.Reads as step-reads
 
 abbrev Inv-loop : tie.InvT-loop
 Inv-loop evaluation cs k links vals₀ i₀ vals i = (i ≤ k) × Evaluated evaluation cs (linksIn links) i vals
@@ -15,32 +12,25 @@ Inv-loop evaluation cs k links vals₀ i₀ vals i = (i ≤ k) × Evaluated eval
 abbrev μ-loop : tie.MeasureT-loop
 μ-loop evaluation cs k links vals₀ i₀ vals i = k - i
 
--- src/lib.rt:121:5
 loop-holds : tie.Need-loop-holds Inv-loop μ-loop
 loop-holds c = (omega arith, evaluated-none _ _ _)
 
--- src/lib.rt:122:13
 step-requires : tie.Need-step-requires Inv-loop μ-loop
 step-requires c κs = (omega arith, evaluated-long _ _ _ _ _ (c .before .before .loop .inv .1))
 
--- src/lib.rt:123:9
 array-write-vals : tie.Need-array-write-vals Inv-loop μ-loop
 array-write-vals c = omega (arith, evaluated-long _ _ _ _ _ (c .before .before .before .loop .inv .1))
 
--- src/lib.rt:124:9
 add-i : tie.Need-add-i Inv-loop μ-loop
 add-i c = omega arith
 
--- src/lib.rt:121:5
 loop-less : tie.Need-loop-less Inv-loop μ-loop
 loop-less c = omega arith
 
--- src/lib.rt:121:5
 loop-again : tie.Need-loop-again Inv-loop μ-loop
 loop-again c = let l = c .before .before .before .loop in
     (omega arith, evaluated-more _ _ _ (l .i) (l .vals) (l .inv .1) _ (omega arith) (c .step .ensures))
 
--- src/lib.rt:115:1
 returns : tie.Need-returns Inv-loop μ-loop
 returns c = let e : c .before .loop .i ≡ c .before .before .before .args .k = omega arith in
     rw e at (c .before .loop .inv .1)

@@ -5,9 +5,6 @@ use Rattle.reach.specs.Masks.{hasBit}
 use Rattle.failure.proofs.Rest.{Rest, rest-none, rest-here, rest-hit, rest-miss, rest-end}
 use Rattle.failure.proofs.false_link.Statement.{statement}
 use Rattle.failure.proofs.false_link.Tie as tie
-use Rattle.failure.proofs.false_link.Reads as reads
-use Rattle.failure.proofs.false_link.Lts as lts
-use Rattle.reach.proofs.reached.Reads as reached-reads
 
 abbrev Inv-loop : tie.InvT-loop
 Inv-loop mask m x rest₀ l₀ rest l = Rest (hasBit mask) m x l rest
@@ -15,43 +12,33 @@ Inv-loop mask m x rest₀ l₀ rest l = Rest (hasBit mask) m x l rest
 abbrev μ-loop : tie.MeasureT-loop
 μ-loop mask m x rest₀ l₀ rest l = m - l
 
--- src/lib.rt:107:5
 loop-holds : tie.Need-loop-holds Inv-loop μ-loop
 loop-holds c = rest-none _ _ _
 
--- src/lib.rt:108:12
 reached-requires : tie.Need-reached-requires Inv-loop μ-loop
 reached-requires c κs = omega arith
 
--- src/lib.rt:110:17
 returns : tie.Need-returns Inv-loop μ-loop
 returns c = let l = c .before .before .before .before .loop in rest-here _ _ _ _ (l .rest) (l .inv) (c .before .before .before .loop-test .taken) (sym (c .before .before .reached .ensures) ∙ c .before .if1 .taken) (c .if2 .taken)
 
--- src/lib.rt:113:13
 add-l : tie.Need-add-l Inv-loop μ-loop
 add-l c = omega arith
 
--- src/lib.rt:107:5
 loop-less : tie.Need-loop-less Inv-loop μ-loop
 loop-less c = omega arith
 
--- src/lib.rt:107:5
 loop-again : tie.Need-loop-again Inv-loop μ-loop
 loop-again c = let l = c .before .before .before .before .loop in rest-hit _ _ _ _ (l .rest) (l .inv) (c .before .before .before .loop-test .taken) (sym (c .before .before .reached .ensures) ∙ c .before .if1 .taken) (c .if2 .left)
 
--- src/lib.rt:115:13
 add-l-2 : tie.Need-add-l-2 Inv-loop μ-loop
 add-l-2 c = omega arith
 
--- src/lib.rt:107:5
 loop-less-2 : tie.Need-loop-less-2 Inv-loop μ-loop
 loop-less-2 c = omega arith
 
--- src/lib.rt:107:5
 loop-again-2 : tie.Need-loop-again-2 Inv-loop μ-loop
 loop-again-2 c = let l = c .before .before .before .loop in rest-miss _ _ _ _ (l .rest) (l .inv) (c .before .before .loop-test .taken) (sym (c .before .reached .ensures) ∙ c .if1 .left)
 
--- src/lib.rt:101:1
 returns-2 : tie.Need-returns-2 Inv-loop μ-loop
 returns-2 c = let l = c .before .loop in rest-end _ _ _ _ (l .rest) (l .inv) (c .loop-test .left)
 

@@ -3,29 +3,19 @@ use Rattle.failure.proofs.Search.{failure-none, failure-at}
 use borrow.Author.Needs.{needs}
 use Rattle.failure.proofs.of_condition.Statement.{statement}
 use Rattle.failure.proofs.of_condition.Tie as tie
-use Rattle.failure.proofs.of_condition.Reads as reads
-use Rattle.failure.proofs.of_condition.Lts as lts
-use Rattle.failure.proofs.false_link.Reads as false-link-reads
-use Rattle.failure.proofs.number.Reads as number-reads
-use Rattle.failure.proofs.passes.Reads as passes-reads
 
--- src/lib.rt:199:8
 passes-requires : tie.Need-passes-requires
 passes-requires c κs = search needs
 
--- src/lib.rt:200:9
 returns : tie.Need-returns
 returns c = failure-none _ _ _ _ (sym (c .before .passes .ensures) ∙ c .if1 .taken)
 
--- src/lib.rt:202:9
 number-requires : tie.Need-number-requires
 number-requires c κs = search needs
 
--- src/lib.rt:203:9
 false-link-requires : tie.Need-false-link-requires
 false-link-requires c κs = search needs
 
--- src/lib.rt:195:1
 returns-2 : tie.Need-returns-2
 returns-2 c = failure-at _ _ _ _ (c .before .before .before .before .before .pre) _ _ _ (sym (c .before .before .before .passes .ensures) ∙ c .before .before .if1 .left) (c .before .number .ensures) (c .false-link .ensures)
 

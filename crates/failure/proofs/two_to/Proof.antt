@@ -6,14 +6,10 @@ use native.Mathlib.Omega.{arith}
 use borrow.Author.Needs.{needs}
 use Rattle.failure.proofs.two_to.Statement.{statement}
 use Rattle.failure.proofs.two_to.Tie as tie
-use Rattle.failure.proofs.two_to.Reads as reads
-use Rattle.failure.proofs.two_to.Lts as lts
 
--- src/lib.rt:37:5
 shl-result : tie.Need-shl-result
 shl-result c = search needs
 
--- src/lib.rt:33:1
 returns : tie.Need-returns
 returns c = shl-exact 1 (c .args .q) 64 (omega arith) (omega arith) ∙ one-mul (2 ^ c .args .q)
 

@@ -5,26 +5,18 @@ use Rattle.failure.proofs.Lanes.{failing-totals}
 use borrow.Author.Needs.{needs}
 use Rattle.failure.proofs.unsteady_totals.Statement.{statement}
 use Rattle.failure.proofs.unsteady_totals.Tie as tie
-use Rattle.failure.proofs.unsteady_totals.Reads as reads
-use Rattle.failure.proofs.unsteady_totals.Lts as lts
-use Rattle.failure.proofs.unsteady.Reads as unsteady-reads
-use Rattle.words.proofs.words.Reads as words-reads
 
--- src/lib.rt:48:17
 words-requires : tie.Need-words-requires
 unfolding baseOf
 words-requires c κs = let s = c .before .pre in (omega arith, (s .0 .few-links, (narrow-few _ _ _ _ (s .0), s .1)))
 
--- src/lib.rt:49:18
 words-requires-2 : tie.Need-words-requires-2
 unfolding baseOf
 words-requires-2 c κs = let s = c .before .before .pre in (omega arith, (s .0 .few-links, (narrow-few _ _ _ _ (s .0), s .1)))
 
--- src/lib.rt:50:5
 unsteady-requires : tie.Need-unsteady-requires
 unsteady-requires c κs = search needs
 
--- src/lib.rt:44:1
 returns : tie.Need-returns
 unfolding baseOf
 returns c = failing-totals _ _ _ _ (c .before .before .before .before .before .before .pre .0) _ _ _ _ _ (c .unsteady .ensures) (c .before .before .before .before .words .ensures) (c .before .before .before .words2 .ensures)

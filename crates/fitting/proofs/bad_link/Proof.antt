@@ -7,9 +7,6 @@ use Rattle.moves.specs.Fits.{linksFit}
 use native.Mathlib.Omega.{arith}
 use Rattle.fitting.proofs.bad_link.Statement.{statement}
 use Rattle.fitting.proofs.bad_link.Tie as tie
-use Rattle.fitting.proofs.bad_link.Reads as reads
-use Rattle.fitting.proofs.bad_link.Lts as lts
-use Rattle.fitting.proofs.link_ok.Reads as link-ok-reads
 
 abbrev Inv-loop : tie.InvT-loop
 Inv-loop m links link₀ link = Scanned (linksFit m links) link
@@ -17,35 +14,27 @@ Inv-loop m links link₀ link = Scanned (linksFit m links) link
 abbrev μ-loop : tie.MeasureT-loop
 μ-loop m links link₀ link = 64 - link
 
--- src/lib.rt:143:5
 loop-holds : tie.Need-loop-holds Inv-loop μ-loop
 loop-holds c = scanned-none _
 
--- src/lib.rt:144:30
 element-copy-out-link-ok : tie.Need-element-copy-out-link-ok Inv-loop μ-loop
 element-copy-out-link-ok c = omega arith
 
--- src/lib.rt:144:13
 link-ok-requires : tie.Need-link-ok-requires Inv-loop μ-loop
 link-ok-requires c κs = omega arith
 
--- src/lib.rt:145:13
 returns : tie.Need-returns Inv-loop μ-loop
 returns c = scanned-stop _ _ (c .before .before .before .before .loop .inv) (c .before .before .before .loop-test .taken) (link-read _ _ _ _ (c .before .link-ok .ensures) ∙ not-true _ (c .if1 .taken))
 
--- src/lib.rt:147:9
 add-link : tie.Need-add-link Inv-loop μ-loop
 add-link c = omega arith
 
--- src/lib.rt:143:5
 loop-less : tie.Need-loop-less Inv-loop μ-loop
 loop-less c = omega arith
 
--- src/lib.rt:143:5
 loop-again : tie.Need-loop-again Inv-loop μ-loop
 loop-again c = scanned-more _ _ (c .before .before .before .before .loop .inv) (c .before .before .before .loop-test .taken) (link-read _ _ _ _ (c .before .link-ok .ensures) ∙ not-false _ (c .if1 .left))
 
--- src/lib.rt:139:1
 returns-2 : tie.Need-returns-2 Inv-loop μ-loop
 returns-2 c = scanned-end _ _ (c .before .loop .inv) (c .loop-test .left)
 

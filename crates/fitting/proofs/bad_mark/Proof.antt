@@ -9,10 +9,6 @@ use Rattle.moves.specs.Fits.{marksFit}
 use Rattle.fitting.proofs.Places.{mark-read, rest-read}
 use Rattle.fitting.proofs.bad_mark.Statement.{statement}
 use Rattle.fitting.proofs.bad_mark.Tie as tie
-use Rattle.fitting.proofs.bad_mark.Reads as reads
-use Rattle.fitting.proofs.bad_mark.Lts as lts
-use Rattle.fitting.proofs.bad_rest.Reads as bad-rest-reads
-use Rattle.fitting.proofs.suits.Reads as suits-reads
 
 abbrev Inv-loop : tie.InvT-loop
 Inv-loop mode ts n marks row₀ row = (row ≤ n) × Scanned (marksFit ts n (modeOf mode) (λ k. getD marks k 0)) row
@@ -20,39 +16,30 @@ Inv-loop mode ts n marks row₀ row = (row ≤ n) × Scanned (marksFit ts n (mod
 abbrev μ-loop : tie.MeasureT-loop
 μ-loop mode ts n marks row₀ row = n - row
 
--- src/lib.rt:142:5
 loop-holds : tie.Need-loop-holds Inv-loop μ-loop
 loop-holds c = (omega arith, scanned-none _)
 
--- src/lib.rt:143:34
 element-copy-out-suits : tie.Need-element-copy-out-suits Inv-loop μ-loop
 element-copy-out-suits c = omega arith
 
--- src/lib.rt:143:13
 suits-requires : tie.Need-suits-requires Inv-loop μ-loop
 suits-requires c κs = omega arith
 
--- src/lib.rt:144:13
 returns : tie.Need-returns Inv-loop μ-loop
 returns c = scanned-stop _ _ (c .before .before .before .before .loop .inv .1) (omega arith) (mark-read _ _ _ (λ k. getD (c .before .before .before .before .before .before .args .marks .now) k 0) _ _ (c .before .before .before .loop-test .taken) (c .before .suits .ensures) ∙ not-true _ (c .if1 .taken))
 
--- src/lib.rt:146:9
 add-row : tie.Need-add-row Inv-loop μ-loop
 add-row c = omega arith
 
--- src/lib.rt:142:5
 loop-less : tie.Need-loop-less Inv-loop μ-loop
 loop-less c = omega arith
 
--- src/lib.rt:142:5
 loop-again : tie.Need-loop-again Inv-loop μ-loop
 loop-again c = (omega arith, scanned-more _ _ (c .before .before .before .before .loop .inv .1) (omega arith) (mark-read _ _ _ (λ k. getD (c .before .before .before .before .before .before .args .marks .now) k 0) _ _ (c .before .before .before .loop-test .taken) (c .before .suits .ensures) ∙ not-false _ (c .if1 .left)))
 
--- src/lib.rt:148:5
 bad-rest-requires : tie.Need-bad-rest-requires Inv-loop μ-loop
 bad-rest-requires c κs = omega arith
 
--- src/lib.rt:137:1
 returns-2 : tie.Need-returns-2 Inv-loop μ-loop
 returns-2 c = let e : c .before .before .loop .row ≡ c .before .before .before .before .args .n = omega arith in c .bad-rest .ensures ∙ rest-read _ _ _ _ (rw e at (c .before .before .loop .inv .1))
 

@@ -7,9 +7,6 @@ use Rattle.fitting.specs.Checks.{restFit}
 use Rattle.fitting.proofs.Places.{rest-all}
 use Rattle.fitting.proofs.bad_rest.Statement.{statement}
 use Rattle.fitting.proofs.bad_rest.Tie as tie
-use Rattle.fitting.proofs.bad_rest.Reads as reads
-use Rattle.fitting.proofs.bad_rest.Lts as lts
-use Rattle.fitting.proofs.unmarked_from.Reads as unmarked-from-reads
 
 abbrev Inv-loop : tie.InvT-loop
 Inv-loop marks n row₀ row = Scanned (restFit n (λ k. getD marks k 0)) row
@@ -17,39 +14,30 @@ Inv-loop marks n row₀ row = Scanned (restFit n (λ k. getD marks k 0)) row
 abbrev μ-loop : tie.MeasureT-loop
 μ-loop marks n row₀ row = 256 - row
 
--- src/lib.rt:123:8
 unmarked-from-requires : tie.Need-unmarked-from-requires Inv-loop μ-loop
 unmarked-from-requires c κs = omega arith
 
--- src/lib.rt:124:9
 returns : tie.Need-returns Inv-loop μ-loop
 returns c = rest-all _ (λ k. getD (c .before .before .args .marks .now) k 0) (c .before .before .pre) (c .before .unmarked-from .ensures (c .if1 .taken))
 
--- src/lib.rt:127:5
 loop-holds : tie.Need-loop-holds Inv-loop μ-loop
 loop-holds c = scanned-none _
 
--- src/lib.rt:128:12
 element-copy-out-if2 : tie.Need-element-copy-out-if2 Inv-loop μ-loop
 element-copy-out-if2 c = omega arith
 
--- src/lib.rt:129:13
 returns-2 : tie.Need-returns-2 Inv-loop μ-loop
 returns-2 c = scanned-stop _ _ (c .before .before .before .loop .inv) (c .before .before .loop-test .taken) (ne-eqb _ 0 (c .if2 .taken))
 
--- src/lib.rt:131:9
 add-row : tie.Need-add-row Inv-loop μ-loop
 add-row c = omega arith
 
--- src/lib.rt:127:5
 loop-less : tie.Need-loop-less Inv-loop μ-loop
 loop-less c = omega arith
 
--- src/lib.rt:127:5
 loop-again : tie.Need-loop-again Inv-loop μ-loop
 loop-again c = scanned-more _ _ (c .before .before .before .loop .inv) (c .before .before .loop-test .taken) (eq-eqb _ 0 (c .if2 .left))
 
--- src/lib.rt:119:1
 returns-3 : tie.Need-returns-3 Inv-loop μ-loop
 returns-3 c = scanned-end _ _ (c .before .loop .inv) (c .loop-test .left)
 

@@ -8,10 +8,6 @@ use Rattle.moves.specs.Fits.{waitsFit}
 use native.Mathlib.Omega.{arith}
 use Rattle.fitting.proofs.bad_wait.Statement.{statement}
 use Rattle.fitting.proofs.bad_wait.Tie as tie
-use Rattle.fitting.proofs.bad_wait.Reads as reads
-use Rattle.fitting.proofs.bad_wait.Lts as lts
-use Rattle.fitting.proofs.wait_ok.Reads as wait-ok-reads
-use Rattle.front.proofs.ask.Reads as ask-reads
 
 abbrev Inv-loop : tie.InvT-loop
 Inv-loop ts n marks held row₀ row = Scanned (waitsFit ts n (λ k. getD marks k 0)) row
@@ -19,43 +15,33 @@ Inv-loop ts n marks held row₀ row = Scanned (waitsFit ts n (λ k. getD marks k
 abbrev μ-loop : tie.MeasureT-loop
 μ-loop ts n marks held row₀ row = n - row
 
--- src/lib.rt:157:16
 ask-requires : tie.Need-ask-requires Inv-loop μ-loop
 ask-requires c κs = c .before .pre
 
--- src/lib.rt:159:5
 loop-holds : tie.Need-loop-holds Inv-loop μ-loop
 loop-holds c = scanned-none _
 
--- src/lib.rt:160:21
 array-read-wait-ok : tie.Need-array-read-wait-ok Inv-loop μ-loop
 array-read-wait-ok c = omega arith
 
--- src/lib.rt:160:41
 element-copy-out-wait-ok : tie.Need-element-copy-out-wait-ok Inv-loop μ-loop
 element-copy-out-wait-ok c = omega arith
 
--- src/lib.rt:160:13
 wait-ok-requires : tie.Need-wait-ok-requires Inv-loop μ-loop
 wait-ok-requires c κs = omega arith
 
--- src/lib.rt:161:13
 returns : tie.Need-returns Inv-loop μ-loop
 returns c = scanned-stop _ _ (c .before .before .before .before .loop .inv) (c .before .before .before .loop-test .taken) (wait-read _ _ _ _ _ (c .before .before .before .loop-test .taken) _ (c .before .before .before .before .before .ask .ensures) (c .before .wait-ok .ensures) ∙ not-true _ (c .if1 .taken))
 
--- src/lib.rt:163:9
 add-row : tie.Need-add-row Inv-loop μ-loop
 add-row c = omega arith
 
--- src/lib.rt:159:5
 loop-less : tie.Need-loop-less Inv-loop μ-loop
 loop-less c = omega arith
 
--- src/lib.rt:159:5
 loop-again : tie.Need-loop-again Inv-loop μ-loop
 loop-again c = scanned-more _ _ (c .before .before .before .before .loop .inv) (c .before .before .before .loop-test .taken) (wait-read _ _ _ _ _ (c .before .before .before .loop-test .taken) _ (c .before .before .before .before .before .ask .ensures) (c .before .wait-ok .ensures) ∙ not-false _ (c .if1 .left))
 
--- src/lib.rt:153:1
 returns-2 : tie.Need-returns-2 Inv-loop μ-loop
 returns-2 c = scanned-end _ _ (c .before .loop .inv) (c .loop-test .left)
 

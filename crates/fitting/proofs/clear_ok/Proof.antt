@@ -3,20 +3,14 @@ use Rattle.laws.specs.Tests.{or}
 use borrow.Author.Needs.{needs}
 use Rattle.fitting.proofs.clear_ok.Statement.{statement}
 use Rattle.fitting.proofs.clear_ok.Tie as tie
-use Rattle.fitting.proofs.clear_ok.Reads as reads
-use Rattle.fitting.proofs.clear_ok.Lts as lts
-use Rattle.fitting.proofs.clear_row.Reads as clear-row-reads
 
--- src/lib.rt:118:9
 clear-row-requires : tie.Need-clear-row-requires
 clear-row-requires c κs = search needs
 
--- src/lib.rt:118:9
 returns : tie.Need-returns
 unfolding or
 returns c = rw (eq-eqb _ 1 (c .before .if1 .taken)) (c .clear-row .ensures)
 
--- src/lib.rt:113:1
 returns-2 : tie.Need-returns-2
 unfolding or
 returns-2 c = rw (ne-eqb _ 1 (c .if1 .left))

@@ -3,18 +3,13 @@ use native.Mathlib.Omega.{arith}
 use borrow.Author.Needs.{needs}
 use Rattle.fitting.proofs.link_byte.Statement.{statement}
 use Rattle.fitting.proofs.link_byte.Tie as tie
-use Rattle.fitting.proofs.link_byte.Reads as reads
-use Rattle.fitting.proofs.link_byte.Lts as lts
 
--- src/lib.rt:97:16
 element-copy-out-result : tie.Need-element-copy-out-result
 element-copy-out-result c = search needs
 
--- src/lib.rt:97:9
 returns : tie.Need-returns
 returns c = search needs
 
--- src/lib.rt:92:1
 returns-2 : tie.Need-returns-2
 returns-2 c = getD-past (c .before .args .links .now) (c .before .args .link) (omega arith)
 

@@ -1,14 +1,10 @@
 use borrow.Author.Tests.{lt-ltb, le-ltb}
 use Rattle.fitting.proofs.link_ok.Statement.{statement}
 use Rattle.fitting.proofs.link_ok.Tie as tie
-use Rattle.fitting.proofs.link_ok.Reads as reads
-use Rattle.fitting.proofs.link_ok.Lts as lts
 
--- src/lib.rt:62:9
 returns : tie.Need-returns
 returns c = rw (lt-ltb _ _ (c .if1 .taken))
 
--- src/lib.rt:58:1
 returns-2 : tie.Need-returns-2
 returns-2 c = rw (le-ltb _ _ (c .if1 .left))
 

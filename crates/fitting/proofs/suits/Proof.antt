@@ -6,43 +6,32 @@ use Rattle.fitting.proofs.ByKind.{or-bars-two, suits-rest}
 use borrow.Author.Needs.{needs}
 use Rattle.fitting.proofs.suits.Statement.{statement}
 use Rattle.fitting.proofs.suits.Tie as tie
-use Rattle.fitting.proofs.suits.Reads as reads
-use Rattle.fitting.proofs.suits.Lts as lts
-use Rattle.front.proofs.cleans.Reads as cleans-reads
 
--- src/lib.rt:38:14
 mul-match : tie.Need-mul-match
 mul-match c = search needs
 
--- src/lib.rt:38:11
 shared-slice-read-match : tie.Need-shared-slice-read-match
 shared-slice-read-match c = search needs
 
--- src/lib.rt:41:43
 cleans-requires : tie.Need-cleans-requires
 cleans-requires c κs = search needs
 
--- src/lib.rt:34:1
 returns : tie.Need-returns
 unfolding rowAt rowBy suits suitsPrefix
 returns c = rw (c .match .keys1)
 
--- src/lib.rt:34:1
 returns-2 : tie.Need-returns-2
 unfolding rowAt rowBy suits suitsPrefix
 returns-2 c = rw (c .match .keys2)
 
--- src/lib.rt:34:1
 returns-3 : tie.Need-returns-3
 unfolding rowAt rowBy suits suitsPrefix
 returns-3 c = rw (c .before .match .keys3, c .cleans .ensures) (or-is _ _)
 
--- src/lib.rt:34:1
 returns-4 : tie.Need-returns-4
 unfolding rowAt rowBy suits suitsBranch
 returns-4 c = rw (c .match .keys4) (or-bars-two _ _ _)
 
--- src/lib.rt:34:1
 returns-5 : tie.Need-returns-5
 unfolding rowAt
 returns-5 c = let m = c .match .rest in suits-rest _ _ _ _ _ _ (ne-eqb _ 1 (m .0 .0 .0 .1)) (ne-eqb _ 2 (m .0 .0 .1)) (ne-eqb _ 3 (m .0 .1)) (ne-eqb _ 4 (m .1))

@@ -3,8 +3,6 @@ use native.Mathlib.Omega.{arith}
 use Rattle.fitting.proofs.Places.{Unmarked, unmarked-more}
 use Rattle.fitting.proofs.unmarked_from.Statement.{statement}
 use Rattle.fitting.proofs.unmarked_from.Tie as tie
-use Rattle.fitting.proofs.unmarked_from.Reads as reads
-use Rattle.fitting.proofs.unmarked_from.Lts as lts
 
 abbrev Inv-loop : tie.InvT-loop
 Inv-loop marks n none₀ row₀ none row = Unmarked marks n row none
@@ -12,27 +10,21 @@ Inv-loop marks n none₀ row₀ none row = Unmarked marks n row none
 abbrev μ-loop : tie.MeasureT-loop
 μ-loop marks n none₀ row₀ none row = 256 - row
 
--- src/lib.rt:111:5
 loop-holds : tie.Need-loop-holds Inv-loop μ-loop
 loop-holds c e k low high = absurd (omega arith)
 
--- src/lib.rt:112:24
 element-copy-out-none : tie.Need-element-copy-out-none Inv-loop μ-loop
 element-copy-out-none c = omega arith
 
--- src/lib.rt:113:9
 add-row : tie.Need-add-row Inv-loop μ-loop
 add-row c = omega arith
 
--- src/lib.rt:111:5
 loop-less : tie.Need-loop-less Inv-loop μ-loop
 loop-less c = omega arith
 
--- src/lib.rt:111:5
 loop-again : tie.Need-loop-again Inv-loop μ-loop
 loop-again c = unmarked-more (c .before .before .before .args .marks .now) _ _ _ (c .before .before .loop .inv)
 
--- src/lib.rt:106:1
 returns : tie.Need-returns Inv-loop μ-loop
 returns c e k low high = c .before .loop .inv e k low (omega arith)
 

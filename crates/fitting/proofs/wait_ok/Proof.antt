@@ -3,20 +3,14 @@ use Rattle.laws.specs.Tests.{or}
 use borrow.Author.Needs.{needs}
 use Rattle.fitting.proofs.wait_ok.Statement.{statement}
 use Rattle.fitting.proofs.wait_ok.Tie as tie
-use Rattle.fitting.proofs.wait_ok.Reads as reads
-use Rattle.fitting.proofs.wait_ok.Lts as lts
-use Rattle.fitting.proofs.waiting.Reads as waiting-reads
 
--- src/lib.rt:68:9
 waiting-requires : tie.Need-waiting-requires
 waiting-requires c κs = search needs
 
--- src/lib.rt:68:9
 returns : tie.Need-returns
 unfolding or
 returns c = rw (eq-eqb _ 1 (c .before .if1 .taken)) (c .waiting .ensures)
 
--- src/lib.rt:63:1
 returns-2 : tie.Need-returns-2
 unfolding or
 returns-2 c = rw (ne-eqb _ 1 (c .if1 .left))

@@ -5,56 +5,41 @@ use Rattle.fitting.proofs.ByKind.{waiting-rest}
 use borrow.Author.Needs.{needs}
 use Rattle.fitting.proofs.waiting.Statement.{statement}
 use Rattle.fitting.proofs.waiting.Tie as tie
-use Rattle.fitting.proofs.waiting.Reads as reads
-use Rattle.fitting.proofs.waiting.Lts as lts
-use Rattle.front.proofs.undecided.Reads as undecided-reads
-use Rattle.front.proofs.waits.Reads as waits-reads
 
--- src/lib.rt:54:14
 mul-match : tie.Need-mul-match
 mul-match c = search needs
 
--- src/lib.rt:54:11
 shared-slice-read-match : tie.Need-shared-slice-read-match
 shared-slice-read-match c = search needs
 
--- src/lib.rt:55:14
 waits-requires : tie.Need-waits-requires
 waits-requires c κs = search needs
 
--- src/lib.rt:56:14
 waits-requires-2 : tie.Need-waits-requires-2
 waits-requires-2 c κs = search needs
 
--- src/lib.rt:57:14
 waits-requires-3 : tie.Need-waits-requires-3
 waits-requires-3 c κs = search needs
 
--- src/lib.rt:58:14
 undecided-requires : tie.Need-undecided-requires
 undecided-requires c κs = search needs
 
--- src/lib.rt:50:1
 returns : tie.Need-returns
 unfolding rowAt rowBy waiting
 returns c = rw (c .before .match .keys1) (c .waits .ensures)
 
--- src/lib.rt:50:1
 returns-2 : tie.Need-returns-2
 unfolding rowAt rowBy waiting
 returns-2 c = rw (c .before .match .keys2) (c .waits2 .ensures)
 
--- src/lib.rt:50:1
 returns-3 : tie.Need-returns-3
 unfolding rowAt rowBy waiting
 returns-3 c = rw (c .before .match .keys3) (c .waits3 .ensures)
 
--- src/lib.rt:50:1
 returns-4 : tie.Need-returns-4
 unfolding rowAt rowBy waiting
 returns-4 c = rw (c .before .match .keys4) (c .undecided .ensures)
 
--- src/lib.rt:50:1
 returns-5 : tie.Need-returns-5
 unfolding rowAt
 returns-5 c = let m = c .match .rest in waiting-rest _ _ _ _ _ (ne-eqb _ 1 (m .0 .0 .0 .1)) (ne-eqb _ 2 (m .0 .0 .1)) (ne-eqb _ 3 (m .0 .1)) (ne-eqb _ 4 (m .1))

@@ -8,10 +8,6 @@ use Rattle.front.specs.Asked.{askedAt}
 use Rattle.front.proofs.Asking.{asked-none, asked-more, asked-all}
 use Rattle.front.proofs.ask.Statement.{statement}
 use Rattle.front.proofs.ask.Tie as tie
-use Rattle.front.proofs.ask.Reads as reads
-use Rattle.front.proofs.ask.Lts as lts
-use Rattle.front.proofs.hand.Reads as hand-reads
-use Rattle.front.proofs.top.Reads as top-reads
 
 abbrev Inv-loop : tie.InvT-loop
 Inv-loop asked ts n marks table₀ i₀ table i = (i ≤ n) × Pushed (rowAt ts) (askedAt asked (rowAt ts) (λ k. getD marks k 0)) n i table
@@ -19,43 +15,33 @@ Inv-loop asked ts n marks table₀ i₀ table i = (i ≤ n) × Pushed (rowAt ts)
 abbrev μ-loop : tie.MeasureT-loop
 μ-loop asked ts n marks table₀ i₀ table i = n - i
 
--- src/lib.rt:153:16
 top-requires : tie.Need-top-requires Inv-loop μ-loop
 top-requires c κs = omega arith
 
--- src/lib.rt:153:5
 array-write-table : tie.Need-array-write-table Inv-loop μ-loop
 array-write-table c = omega arith
 
--- src/lib.rt:155:5
 loop-holds : tie.Need-loop-holds Inv-loop μ-loop
 loop-holds c = (omega arith, asked-none _ _ _ _ (c .before .before .pre .1 .1) (c .before .before .pre .0) _ (c .top .ensures))
 
--- src/lib.rt:156:19
 array-read-own : tie.Need-array-read-own Inv-loop μ-loop
 array-read-own c = omega arith
 
--- src/lib.rt:157:40
 element-copy-out-hand : tie.Need-element-copy-out-hand Inv-loop μ-loop
 element-copy-out-hand c = omega arith
 
--- src/lib.rt:157:9
 hand-requires : tie.Need-hand-requires Inv-loop μ-loop
 hand-requires c κs = omega arith
 
--- src/lib.rt:158:9
 add-i : tie.Need-add-i Inv-loop μ-loop
 add-i c = omega arith
 
--- src/lib.rt:155:5
 loop-less : tie.Need-loop-less Inv-loop μ-loop
 loop-less c = omega arith
 
--- src/lib.rt:155:5
 loop-again : tie.Need-loop-again Inv-loop μ-loop
 loop-again c = (omega arith, asked-more _ _ _ _ (c .before .before .before .before .before .before .before .pre .1 .1) (c .before .before .before .before .before .before .before .pre .0) _ _ _ (omega arith) (c .before .before .before .before .loop .inv .1) (c .hand .ensures))
 
--- src/lib.rt:148:1
 returns : tie.Need-returns Inv-loop μ-loop
 returns c = let e : c .before .loop .i ≡ c .before .before .before .before .args .n = omega arith in asked-all _ _ _ _ (c .before .before .before .before .pre .1 .1) (c .before .before .before .before .pre .0) _ (rw e at (c .before .loop .inv .1))
 

@@ -1,10 +1,7 @@
 use Rattle.front.proofs.ByKind.{cleans-by}
 use Rattle.front.proofs.cleans.Statement.{statement}
 use Rattle.front.proofs.cleans.Tie as tie
-use Rattle.front.proofs.cleans.Reads as reads
-use Rattle.front.proofs.cleans.Lts as lts
 
--- src/lib.rt:25:1
 returns : tie.Need-returns
 returns c = cleans-by _
 

@@ -6,143 +6,105 @@ use Rattle.front.proofs.ByKind.{row-act, row-out, row-join, row-pick, r
 use borrow.Author.Needs.{needs}
 use Rattle.front.proofs.hand.Statement.{statement}
 use Rattle.front.proofs.hand.Tie as tie
-use Rattle.front.proofs.hand.Reads as reads
-use Rattle.front.proofs.hand.Lts as lts
-use Rattle.front.proofs.mark_both.Reads as mark-both-reads
-use Rattle.front.proofs.mark_child.Reads as mark-child-reads
-use Rattle.front.proofs.pick_next.Reads as pick-next-reads
-use Rattle.front.proofs.step_next.Reads as step-next-reads
 
--- src/lib.rt:130:14
 mul-at : tie.Need-mul-at
 mul-at c = search needs
 
--- src/lib.rt:131:11
 shared-slice-read-match : tie.Need-shared-slice-read-match
 shared-slice-read-match c = search needs
 
--- src/lib.rt:132:35
 add-mark-child : tie.Need-add-mark-child
 add-mark-child c = search needs
 
--- src/lib.rt:132:32
 shared-slice-read-mark-child : tie.Need-shared-slice-read-mark-child
 shared-slice-read-mark-child c = search needs
 
--- src/lib.rt:132:44
 step-next-requires : tie.Need-step-next-requires
 step-next-requires c κs = search needs
 
--- src/lib.rt:132:14
 mark-child-requires : tie.Need-mark-child-requires
 mark-child-requires c κs = search needs
 
--- src/lib.rt:133:35
 add-mark-child-2 : tie.Need-add-mark-child-2
 add-mark-child-2 c = search needs
 
--- src/lib.rt:133:32
 shared-slice-read-mark-child-2 : tie.Need-shared-slice-read-mark-child-2
 shared-slice-read-mark-child-2 c = search needs
 
--- src/lib.rt:133:44
 step-next-requires-2 : tie.Need-step-next-requires-2
 step-next-requires-2 c κs = search needs
 
--- src/lib.rt:133:14
 mark-child-requires-2 : tie.Need-mark-child-requires-2
 mark-child-requires-2 c κs = search needs
 
--- src/lib.rt:134:35
 add-mark-child-3 : tie.Need-add-mark-child-3
 add-mark-child-3 c = search needs
 
--- src/lib.rt:134:32
 shared-slice-read-mark-child-3 : tie.Need-shared-slice-read-mark-child-3
 shared-slice-read-mark-child-3 c = search needs
 
--- src/lib.rt:134:44
 step-next-requires-3 : tie.Need-step-next-requires-3
 step-next-requires-3 c κs = search needs
 
--- src/lib.rt:134:14
 mark-child-requires-3 : tie.Need-mark-child-requires-3
 mark-child-requires-3 c κs = search needs
 
--- src/lib.rt:137:16
 add-mark-both : tie.Need-add-mark-both
 add-mark-both c = search needs
 
--- src/lib.rt:137:13
 shared-slice-read-mark-both : tie.Need-shared-slice-read-mark-both
 shared-slice-read-mark-both c = search needs
 
--- src/lib.rt:138:16
 add-mark-both-2 : tie.Need-add-mark-both-2
 add-mark-both-2 c = search needs
 
--- src/lib.rt:138:13
 shared-slice-read-mark-both-2 : tie.Need-shared-slice-read-mark-both-2
 shared-slice-read-mark-both-2 c = search needs
 
--- src/lib.rt:139:13
 pick-next-requires : tie.Need-pick-next-requires
 pick-next-requires c κs = search needs
 
--- src/lib.rt:140:13
 pick-next-requires-2 : tie.Need-pick-next-requires-2
 pick-next-requires-2 c κs = search needs
 
--- src/lib.rt:135:14
 mark-both-requires : tie.Need-mark-both-requires
 mark-both-requires c κs = search needs
 
--- src/lib.rt:142:34
 add-mark-both-3 : tie.Need-add-mark-both-3
 add-mark-both-3 c = search needs
 
--- src/lib.rt:142:31
 shared-slice-read-mark-both-3 : tie.Need-shared-slice-read-mark-both-3
 shared-slice-read-mark-both-3 c = search needs
 
--- src/lib.rt:142:46
 add-mark-both-4 : tie.Need-add-mark-both-4
 add-mark-both-4 c = search needs
 
--- src/lib.rt:142:43
 shared-slice-read-mark-both-4 : tie.Need-shared-slice-read-mark-both-4
 shared-slice-read-mark-both-4 c = search needs
 
--- src/lib.rt:142:14
 mark-both-requires-2 : tie.Need-mark-both-requires-2
 mark-both-requires-2 c κs = search needs
 
--- src/lib.rt:126:1
 returns : tie.Need-returns
 unfolding rowAt
 returns c = hand-step _ _ _ _ _ _ (row-act _ _ _ _ (c .before .before .before .before .match .keys1)) _ (c .before .step-next .ensures) (c .mark-child .ensures)
 
--- src/lib.rt:126:1
 returns-2 : tie.Need-returns-2
 unfolding rowAt
 returns-2 c = hand-step _ _ _ _ _ _ (row-out _ _ _ _ (c .before .before .before .before .match .keys2)) _ (c .before .step-next2 .ensures) (c .mark-child2 .ensures)
 
--- src/lib.rt:126:1
 returns-3 : tie.Need-returns-3
 unfolding rowAt
 returns-3 c = hand-step _ _ _ _ _ _ (row-join _ _ _ _ (c .before .before .before .before .match .keys3)) _ (c .before .step-next3 .ensures) (c .mark-child3 .ensures)
 
--- src/lib.rt:126:1
 returns-4 : tie.Need-returns-4
 unfolding rowAt
 returns-4 c = hand-pick _ _ _ _ _ _ (row-pick _ _ _ _ (c .before .before .before .before .before .before .match .keys4)) _ _ (c .before .before .pick-next .ensures) (c .before .pick-next2 .ensures) (c .mark-both .ensures)
 
--- src/lib.rt:126:1
 returns-5 : tie.Need-returns-5
 unfolding rowAt
 returns-5 c = hand-flow _ _ _ _ _ _ (row-flow _ _ _ _ (c .before .before .before .before .match .keys5)) (c .mark-both2 .ensures)
 
--- src/lib.rt:126:1
 returns-6 : tie.Need-returns-6
 unfolding rowAt
 returns-6 c = let m = c .match .rest in hand-none _ _ _ _ _ _ (row-other _ _ _ _ (ne-eqb _ 1 (m .0 .0 .0 .0 .1)) (ne-eqb _ 2 (m .0 .0 .0 .1)) (ne-eqb _ 3 (m .0 .0 .1)) (ne-eqb _ 4 (m .0 .1)) (ne-eqb _ 5 (m .1))) refl

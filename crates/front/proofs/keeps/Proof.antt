@@ -9,48 +9,36 @@ use Rattle.front.proofs.ByKind.{keeps-mark, keeps-other}
 use borrow.Author.Needs.{needs}
 use Rattle.front.proofs.keeps.Statement.{statement}
 use Rattle.front.proofs.keeps.Tie as tie
-use Rattle.front.proofs.keeps.Reads as reads
-use Rattle.front.proofs.keeps.Lts as lts
-use Rattle.front.proofs.opens.Reads as opens-reads
 
--- src/lib.rt:67:14
 mul-match : tie.Need-mul-match
 mul-match c = search needs
 
--- src/lib.rt:67:11
 shared-slice-read-match : tie.Need-shared-slice-read-match
 shared-slice-read-match c = search needs
 
--- src/lib.rt:71:14
 opens-requires : tie.Need-opens-requires
 opens-requires c κs = search needs
 
--- src/lib.rt:63:1
 returns : tie.Need-returns
 unfolding rowAt rowBy keeps
 returns c = rw (c .match .keys1) (sym (keeps-mark _))
 
--- src/lib.rt:63:1
 returns-2 : tie.Need-returns-2
 unfolding rowAt rowBy keeps
 returns-2 c = rw (c .match .keys2) (sym (keeps-mark _))
 
--- src/lib.rt:63:1
 returns-3 : tie.Need-returns-3
 unfolding rowAt rowBy keeps
 returns-3 c = rw (c .match .keys3) (sym (keeps-mark _))
 
--- src/lib.rt:63:1
 returns-4 : tie.Need-returns-4
 unfolding rowAt rowBy keeps
 returns-4 c = rw (c .before .match .keys4) (c .opens .ensures)
 
--- src/lib.rt:63:1
 returns-5 : tie.Need-returns-5
 unfolding rowAt rowBy keeps open-branches opens
 returns-5 c = rw (c .match .keys5)
 
--- src/lib.rt:63:1
 returns-6 : tie.Need-returns-6
 unfolding rowAt
 returns-6 c = let m = c .match .rest in sym (keeps-other _ _ _ (row-other _ _ _ _ (ne-eqb _ 1 (m .0 .0 .0 .0 .1)) (ne-eqb _ 2 (m .0 .0 .0 .1)) (ne-eqb _ 3 (m .0 .0 .1)) (ne-eqb _ 4 (m .0 .1)) (ne-eqb _ 5 (m .1))))

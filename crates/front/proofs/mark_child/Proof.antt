@@ -2,19 +2,14 @@ use Rattle.steps.specs.Push.{setIf}
 use borrow.Author.Needs.{needs}
 use Rattle.front.proofs.mark_child.Statement.{statement}
 use Rattle.front.proofs.mark_child.Tie as tie
-use Rattle.front.proofs.mark_child.Reads as reads
-use Rattle.front.proofs.mark_child.Lts as lts
 
--- src/lib.rt:103:9
 element-write-table : tie.Need-element-write-table
 element-write-table c = search needs
 
--- src/lib.rt:99:1
 returns : tie.Need-returns
 unfolding setIf
 returns c = rw (c .if1 .taken)
 
--- src/lib.rt:99:1
 returns-2 : tie.Need-returns-2
 unfolding setIf
 returns-2 c = rw (c .if1 .left)

@@ -1,18 +1,13 @@
 use Rattle.front.proofs.ByKind.{next-reached, next-held, next-live}
 use Rattle.front.proofs.next_by.Statement.{statement}
 use Rattle.front.proofs.next_by.Tie as tie
-use Rattle.front.proofs.next_by.Reads as reads
-use Rattle.front.proofs.next_by.Lts as lts
 
--- src/lib.rt:77:9
 returns : tie.Need-returns
 returns c = next-reached _ _ _ _ _ (c .if1 .taken)
 
--- src/lib.rt:80:9
 returns-2 : tie.Need-returns-2
 returns-2 c = next-held _ _ _ _ _ (c .if2 .taken)
 
--- src/lib.rt:73:1
 returns-3 : tie.Need-returns-3
 returns-3 c = next-live _ _ _ _ _ (c .before .if1 .left) (c .if2 .left)
 

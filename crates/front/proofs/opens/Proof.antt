@@ -3,20 +3,15 @@ use Rattle.steps.specs.Marks.{open-branches}
 use Rattle.steps.specs.InFront.{opens}
 use Rattle.front.proofs.opens.Statement.{statement}
 use Rattle.front.proofs.opens.Tie as tie
-use Rattle.front.proofs.opens.Reads as reads
-use Rattle.front.proofs.opens.Lts as lts
 
--- src/lib.rt:24:1
 returns : tie.Need-returns
 unfolding open-branches opens
 returns c = rw (c .match .keys1)
 
--- src/lib.rt:24:1
 returns-2 : tie.Need-returns-2
 unfolding open-branches opens
 returns-2 c = rw (c .match .keys2)
 
--- src/lib.rt:24:1
 returns-3 : tie.Need-returns-3
 unfolding open-branches opens
 returns-3 c = rw (ne-eqb _ 2 (c .match .rest .0 .1), ne-eqb _ 3 (c .match .rest .1))

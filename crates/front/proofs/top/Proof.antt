@@ -2,15 +2,11 @@ use Rattle.front.specs.Asked.{topOf}
 use borrow.Author.Tests.{ne-eqb}
 use Rattle.front.proofs.top.Statement.{statement}
 use Rattle.front.proofs.top.Tie as tie
-use Rattle.front.proofs.top.Reads as reads
-use Rattle.front.proofs.top.Lts as lts
 
--- src/lib.rt:95:9
 returns : tie.Need-returns
 unfolding topOf
 returns c = rw (c .if1 .taken)
 
--- src/lib.rt:91:1
 returns-2 : tie.Need-returns-2
 unfolding topOf
 returns-2 c = rw (ne-eqb _ 1 (c .if1 .left))

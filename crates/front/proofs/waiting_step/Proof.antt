@@ -6,46 +6,34 @@ use Rattle.front.proofs.ByKind.{waiting-other}
 use borrow.Author.Needs.{needs}
 use Rattle.front.proofs.waiting_step.Statement.{statement}
 use Rattle.front.proofs.waiting_step.Tie as tie
-use Rattle.front.proofs.waiting_step.Reads as reads
-use Rattle.front.proofs.waiting_step.Lts as lts
-use Rattle.front.proofs.waits.Reads as waits-reads
 
--- src/lib.rt:63:14
 mul-match : tie.Need-mul-match
 mul-match c = search needs
 
--- src/lib.rt:63:11
 shared-slice-read-match : tie.Need-shared-slice-read-match
 shared-slice-read-match c = search needs
 
--- src/lib.rt:64:14
 waits-requires : tie.Need-waits-requires
 waits-requires c κs = search needs
 
--- src/lib.rt:65:14
 waits-requires-2 : tie.Need-waits-requires-2
 waits-requires-2 c κs = search needs
 
--- src/lib.rt:66:14
 waits-requires-3 : tie.Need-waits-requires-3
 waits-requires-3 c κs = search needs
 
--- src/lib.rt:59:1
 returns : tie.Need-returns
 unfolding rowAt rowBy waitingStep
 returns c = rw (c .before .match .keys1) (c .waits .ensures)
 
--- src/lib.rt:59:1
 returns-2 : tie.Need-returns-2
 unfolding rowAt rowBy waitingStep
 returns-2 c = rw (c .before .match .keys2) (c .waits2 .ensures)
 
--- src/lib.rt:59:1
 returns-3 : tie.Need-returns-3
 unfolding rowAt rowBy waitingStep
 returns-3 c = rw (c .before .match .keys3) (c .waits3 .ensures)
 
--- src/lib.rt:59:1
 returns-4 : tie.Need-returns-4
 unfolding rowAt
 returns-4 c = let m = c .match .rest in sym (waiting-other _ _ _ _ _ (ne-eqb _ 1 (m .0 .0 .1)) (ne-eqb _ 2 (m .0 .1)) (ne-eqb _ 3 (m .1)))

@@ -2,10 +2,7 @@ use mathlib.Core.Path.{sym}
 use Rattle.front.proofs.ByKind.{waits-mark}
 use Rattle.front.proofs.waits.Statement.{statement}
 use Rattle.front.proofs.waits.Tie as tie
-use Rattle.front.proofs.waits.Reads as reads
-use Rattle.front.proofs.waits.Lts as lts
 
--- src/lib.rt:34:1
 returns : tie.Need-returns
 returns c = sym (waits-mark _)
 

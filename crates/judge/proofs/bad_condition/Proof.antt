@@ -12,10 +12,6 @@ use Rattle.sheet.specs.Rules.{conditions}
 use native.Mathlib.Omega.{arith}
 use Rattle.judge.proofs.bad_condition.Statement.{statement}
 use Rattle.judge.proofs.bad_condition.Tie as tie
-use Rattle.judge.proofs.bad_condition.Reads as reads
-use Rattle.judge.proofs.bad_condition.Lts as lts
-use Rattle.judge.proofs.condition_ok.Reads as condition-ok-reads
-use Rattle.reach.proofs.step.Reads as step-reads
 
 abbrev Inv-loop : tie.InvT-loop
 Inv-loop m k cs masks₀ i₀ masks i = (i ≤ k) × ((length masks ≡ 256) × (Filled 0 (maskAt cs) i masks × Scanned (conditions m k cs) i))
@@ -23,45 +19,35 @@ Inv-loop m k cs masks₀ i₀ masks i = (i ≤ k) × ((length masks ≡ 256) × 
 abbrev μ-loop : tie.MeasureT-loop
 μ-loop m k cs masks₀ i₀ masks i = k - i
 
--- src/lib.rt:74:5
 loop-holds : tie.Need-loop-holds Inv-loop μ-loop
 loop-holds c = (omega arith, (c .before .pre .1 .1 .0, (c .before .pre .1 .1 .1, scanned-none _)))
 
--- src/lib.rt:75:13
 condition-ok-requires : tie.Need-condition-ok-requires Inv-loop μ-loop
 condition-ok-requires c κs = omega arith
 
--- src/lib.rt:76:13
 returns : tie.Need-returns Inv-loop μ-loop
 returns c = let l = c .before .before .before .loop in
     (scanned-stop _ _ (l .inv .1 .1 .1) (c .before .before .loop-test .taken) (sym (c .before .condition-ok .ensures) ∙ not-true _ (c .if1 .taken)), λ h. absurd (omega arith))
 
--- src/lib.rt:78:13
 step-requires : tie.Need-step-requires Inv-loop μ-loop
 step-requires c κs = omega arith
 
--- src/lib.rt:79:9
 mul-masks : tie.Need-mul-masks Inv-loop μ-loop
 mul-masks c = omega arith
 
--- src/lib.rt:79:9
 element-write-masks : tie.Need-element-write-masks Inv-loop μ-loop
 element-write-masks c = omega arith
 
--- src/lib.rt:80:9
 add-i : tie.Need-add-i Inv-loop μ-loop
 add-i c = omega arith
 
--- src/lib.rt:74:5
 loop-less : tie.Need-loop-less Inv-loop μ-loop
 loop-less c = omega arith
 
--- src/lib.rt:74:5
 loop-again : tie.Need-loop-again Inv-loop μ-loop
 loop-again c = let l = c .before .before .before .before .before .loop in
     (omega arith, (simp length-set (l .inv .1 .0), (filled-more 0 _ (l .i) (l .masks) (c .step .result) (omega arith) (c .step .ensures ∙ mask-at _ (l .i) (l .masks) (l .inv .1 .1 .0)) (l .inv .1 .1 .0), scanned-more _ _ (l .inv .1 .1 .1) (c .before .before .before .before .loop-test .taken) (sym (c .before .before .before .condition-ok .ensures) ∙ not-false _ (c .before .before .if1 .left)))))
 
--- src/lib.rt:69:1
 returns-2 : tie.Need-returns-2 Inv-loop μ-loop
 returns-2 c = let l = c .before .loop in
     let e : l .i ≡ c .before .before .before .args .k = omega arith in

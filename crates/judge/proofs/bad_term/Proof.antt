@@ -7,10 +7,6 @@ use Rattle.judge.specs.Judge.{Sound}
 use Rattle.judge.proofs.Counts.{term-read, sound-more, sound-stop, sound-holds}
 use Rattle.judge.proofs.bad_term.Statement.{statement}
 use Rattle.judge.proofs.bad_term.Tie as tie
-use Rattle.judge.proofs.bad_term.Reads as reads
-use Rattle.judge.proofs.bad_term.Lts as lts
-use Rattle.judge.proofs.term_row.Reads as term-row-reads
-use Rattle.judge.proofs.wide.Reads as wide-reads
 
 abbrev Inv-loop : tie.InvT-loop
 Inv-loop m n k ts from i₀ i = (i ≤ n) × Sound m n k ts i
@@ -18,81 +14,63 @@ Inv-loop m n k ts from i₀ i = (i ≤ n) × Sound m n k ts i
 abbrev μ-loop : tie.MeasureT-loop
 μ-loop m n k ts from i₀ i = n - i
 
--- src/lib.rt:181:5
 loop-holds : tie.Need-loop-holds Inv-loop μ-loop
 loop-holds c = c .before .pre .1
 
--- src/lib.rt:182:18
 mul-at : tie.Need-mul-at Inv-loop μ-loop
 mul-at c = omega arith
 
--- src/lib.rt:183:20
 shared-slice-read-kind : tie.Need-shared-slice-read-kind Inv-loop μ-loop
 shared-slice-read-kind c = omega arith
 
--- src/lib.rt:184:25
 add-wide : tie.Need-add-wide Inv-loop μ-loop
 add-wide c = omega arith
 
--- src/lib.rt:184:22
 shared-slice-read-wide : tie.Need-shared-slice-read-wide Inv-loop μ-loop
 shared-slice-read-wide c = omega arith
 
--- src/lib.rt:184:13
 wide-requires : tie.Need-wide-requires Inv-loop μ-loop
 wide-requires c κs = omega arith
 
--- src/lib.rt:185:25
 add-wide-2 : tie.Need-add-wide-2 Inv-loop μ-loop
 add-wide-2 c = omega arith
 
--- src/lib.rt:185:22
 shared-slice-read-wide-2 : tie.Need-shared-slice-read-wide-2 Inv-loop μ-loop
 shared-slice-read-wide-2 c = omega arith
 
--- src/lib.rt:185:13
 wide-requires-2 : tie.Need-wide-requires-2 Inv-loop μ-loop
 wide-requires-2 c κs = omega arith
 
--- src/lib.rt:186:25
 add-wide-3 : tie.Need-add-wide-3 Inv-loop μ-loop
 add-wide-3 c = omega arith
 
--- src/lib.rt:186:22
 shared-slice-read-wide-3 : tie.Need-shared-slice-read-wide-3 Inv-loop μ-loop
 shared-slice-read-wide-3 c = omega arith
 
--- src/lib.rt:186:13
 wide-requires-3 : tie.Need-wide-requires-3 Inv-loop μ-loop
 wide-requires-3 c κs = omega arith
 
--- src/lib.rt:187:13
 term-row-requires : tie.Need-term-row-requires Inv-loop μ-loop
 term-row-requires c κs = omega arith
 
--- src/lib.rt:188:13
 returns : tie.Need-returns Inv-loop μ-loop
 returns c = let l = c .before .before .before .before .before .before .before .before .before .before .loop in
     let a = c .before .before .before .before .before .before .before .before .before .before .before .before .args in
     let ok = term-read (a .ts .now) (a .m) (a .n) (a .k) (l .i) _ _ _ (c .before .term-row .result) (c .before .before .before .before .before .before .wide .ensures) (c .before .before .before .before .wide2 .ensures) (c .before .before .wide3 .ensures) (c .before .term-row .ensures) in
     sound-stop _ _ _ _ (l .i) (l .inv .1) (c .before .before .before .before .before .before .before .before .before .loop-test .taken) (ok ∙ not-true _ (c .if1 .taken))
 
--- src/lib.rt:190:9
 add-i : tie.Need-add-i Inv-loop μ-loop
 add-i c = omega arith
 
--- src/lib.rt:181:5
 loop-less : tie.Need-loop-less Inv-loop μ-loop
 loop-less c = omega arith
 
--- src/lib.rt:181:5
 loop-again : tie.Need-loop-again Inv-loop μ-loop
 loop-again c = let l = c .before .before .before .before .before .before .before .before .before .before .loop in
     let a = c .before .before .before .before .before .before .before .before .before .before .before .before .args in
     let ok = term-read (a .ts .now) (a .m) (a .n) (a .k) (l .i) _ _ _ (c .before .term-row .result) (c .before .before .before .before .before .before .wide .ensures) (c .before .before .before .before .wide2 .ensures) (c .before .before .wide3 .ensures) (c .before .term-row .ensures) in
     (omega arith, sound-more _ _ _ _ (l .i) (l .inv .1) (ok ∙ not-false _ (c .if1 .left)))
 
--- src/lib.rt:176:1
 returns-2 : tie.Need-returns-2 Inv-loop μ-loop
 returns-2 c = let a = c .before .before .before .args in
     let e : c .before .loop .i ≡ a .n = omega arith in

@@ -3,30 +3,22 @@ use Rattle.judge.specs.Judge.{bumped}
 use borrow.Author.Needs.{needs}
 use Rattle.judge.proofs.bump.Statement.{statement}
 use Rattle.judge.proofs.bump.Tie as tie
-use Rattle.judge.proofs.bump.Reads as reads
-use Rattle.judge.proofs.bump.Lts as lts
 
--- src/lib.rt:119:13
 mul-x : tie.Need-mul-x
 mul-x c = search needs
 
--- src/lib.rt:119:13
 element-copy-out-x : tie.Need-element-copy-out-x
 element-copy-out-x c = search needs
 
--- src/lib.rt:120:28
 add-counts : tie.Need-add-counts
 add-counts c = search needs
 
--- src/lib.rt:120:5
 mul-counts : tie.Need-mul-counts
 mul-counts c = search needs
 
--- src/lib.rt:120:5
 element-write-counts : tie.Need-element-write-counts
 element-write-counts c = search needs
 
--- src/lib.rt:115:1
 returns : tie.Need-returns
 unfolding bumped
 returns c = refl

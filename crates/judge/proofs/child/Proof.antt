@@ -2,10 +2,7 @@ use Rattle.sheet.specs.Rules.{childOk}
 use borrow.Author.Needs.{needs}
 use Rattle.judge.proofs.child.Statement.{statement}
 use Rattle.judge.proofs.child.Tie as tie
-use Rattle.judge.proofs.child.Reads as reads
-use Rattle.judge.proofs.child.Lts as lts
 
--- src/lib.rt:85:1
 returns : tie.Need-returns
 unfolding childOk
 returns c = search needs

@@ -2,60 +2,43 @@ use Rattle.sheet.specs.Rules.{conditionOk}
 use borrow.Author.Needs.{needs}
 use Rattle.judge.proofs.condition_ok.Statement.{statement}
 use Rattle.judge.proofs.condition_ok.Tie as tie
-use Rattle.judge.proofs.condition_ok.Reads as reads
-use Rattle.judge.proofs.condition_ok.Lts as lts
-use Rattle.judge.proofs.condition_row.Reads as condition-row-reads
-use Rattle.judge.proofs.wide.Reads as wide-reads
 
--- src/lib.rt:57:14
 mul-at : tie.Need-mul-at
 mul-at c = search needs
 
--- src/lib.rt:61:9
 shared-slice-read-condition-row : tie.Need-shared-slice-read-condition-row
 shared-slice-read-condition-row c = search needs
 
--- src/lib.rt:62:17
 add-wide : tie.Need-add-wide
 add-wide c = search needs
 
--- src/lib.rt:62:14
 shared-slice-read-wide : tie.Need-shared-slice-read-wide
 shared-slice-read-wide c = search needs
 
--- src/lib.rt:62:9
 wide-requires : tie.Need-wide-requires
 wide-requires c κs = search needs
 
--- src/lib.rt:63:17
 add-wide-2 : tie.Need-add-wide-2
 add-wide-2 c = search needs
 
--- src/lib.rt:63:14
 shared-slice-read-wide-2 : tie.Need-shared-slice-read-wide-2
 shared-slice-read-wide-2 c = search needs
 
--- src/lib.rt:63:9
 wide-requires-2 : tie.Need-wide-requires-2
 wide-requires-2 c κs = search needs
 
--- src/lib.rt:64:17
 add-wide-3 : tie.Need-add-wide-3
 add-wide-3 c = search needs
 
--- src/lib.rt:64:14
 shared-slice-read-wide-3 : tie.Need-shared-slice-read-wide-3
 shared-slice-read-wide-3 c = search needs
 
--- src/lib.rt:64:9
 wide-requires-3 : tie.Need-wide-requires-3
 wide-requires-3 c κs = search needs
 
--- src/lib.rt:58:5
 condition-row-requires : tie.Need-condition-row-requires
 condition-row-requires c κs = search needs
 
--- src/lib.rt:53:1
 returns : tie.Need-returns
 unfolding conditionOk
 returns c = cc

@@ -6,21 +6,16 @@ use borrow.Author.Tests.{ne-eqb}
 use Rattle.sheet.specs.Rules.{conditionRule}
 use Rattle.judge.proofs.condition_row.Statement.{statement}
 use Rattle.judge.proofs.condition_row.Tie as tie
-use Rattle.judge.proofs.condition_row.Reads as reads
-use Rattle.judge.proofs.condition_row.Lts as lts
 
--- src/lib.rt:45:9
 returns : tie.Need-returns
 unfolding conditionRule
 returns c = let k = c .before .args .kind in
     rw (ne-eqb k 0 (λ e. omega arith), ne-eqb k 1 (λ e. omega arith), ne-eqb k 2 (λ e. omega arith)) refl
 
--- src/lib.rt:48:9
 returns-2 : tie.Need-returns-2
 unfolding conditionRule
 returns-2 c = rw (c .if2 .taken) refl
 
--- src/lib.rt:41:1
 returns-3 : tie.Need-returns-3
 unfolding conditionRule
 returns-3 c = by-cases (ℕ-discrete (c .before .before .args .kind) 0) (λ e. rw e refl) (λ e. let q : c .before .before .args .kind ≡ 1 = omega arith in rw q refl)

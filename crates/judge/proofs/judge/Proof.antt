@@ -5,25 +5,17 @@ use Rattle.judge.proofs.Chain.{sized-lent, sizes-fails, sizes-holds}
 use borrow.Author.Needs.{needs}
 use Rattle.judge.proofs.judge.Statement.{statement}
 use Rattle.judge.proofs.judge.Tie as tie
-use Rattle.judge.proofs.judge.Reads as reads
-use Rattle.judge.proofs.judge.Lts as lts
-use Rattle.judge.proofs.judge_settings.Reads as judge-settings-reads
-use Rattle.judge.proofs.sized_ok.Reads as sized-ok-reads
 
--- src/lib.rt:329:9
 sized-ok-requires : tie.Need-sized-ok-requires
 sized-ok-requires c κs = search needs
 
--- src/lib.rt:330:9
 returns : tie.Need-returns
 unfolding refusalOf
 returns c = sizes-fails _ _ _ _ _ (sym (c .before .sized-ok .ensures) ∙ not-true _ (c .if1 .taken))
 
--- src/lib.rt:335:5
 judge-settings-requires : tie.Need-judge-settings-requires
 judge-settings-requires c κs = sized-lent _ (sym (c .before .sized-ok .ensures) ∙ not-false _ (c .if1 .left))
 
--- src/lib.rt:324:1
 returns-2 : tie.Need-returns-2
 unfolding refusalOf
 returns-2 c = c .judge-settings .ensures ∙ sizes-holds _ _ _ _ _ (sym (c .before .before .sized-ok .ensures) ∙ not-false _ (c .before .if1 .left))

@@ -4,25 +4,17 @@ use Rattle.laws.proofs.Checks.{place-holds}
 use Rattle.judge.proofs.Chain.{fails, holds}
 use Rattle.judge.proofs.judge_conditions.Statement.{statement}
 use Rattle.judge.proofs.judge_conditions.Tie as tie
-use Rattle.judge.proofs.judge_conditions.Reads as reads
-use Rattle.judge.proofs.judge_conditions.Lts as lts
-use Rattle.judge.proofs.bad_condition.Reads as bad-condition-reads
-use Rattle.judge.proofs.judge_terms.Reads as judge-terms-reads
 
--- src/lib.rt:294:9
 bad-condition-requires : tie.Need-bad-condition-requires
 bad-condition-requires c κs = (c .before .before .before .pre .0 .conditions-lent, (c .before .before .before .pre .0 .few-conditions, (refl, filled-none 0 _ 256)))
 
--- src/lib.rt:296:9
 returns : tie.Need-returns
 returns c = fails _ _ _ (c .before .bad-condition .ensures .0) (c .if1 .taken)
 
--- src/lib.rt:298:5
 judge-terms-requires : tie.Need-judge-terms-requires
 judge-terms-requires c κs = let e = c .before .before .bad-condition .ensures in
     record { lent = c .before .before .before .before .before .before .pre .0; few-links = c .before .before .before .before .before .before .pre .1; masked = e .1 (c .before .if1 .left); sound = place-holds _ _ (e .0) (c .before .if1 .left) }
 
--- src/lib.rt:288:1
 returns-2 : tie.Need-returns-2
 returns-2 c = c .judge-terms .ensures ∙ holds _ _ _ (c .before .before .before .bad-condition .ensures .0) (c .before .before .if1 .left)
 

@@ -1,14 +1,10 @@
 use Rattle.judge.proofs.Chain.{fails, holds-last}
 use Rattle.judge.proofs.judge_joins.Statement.{statement}
 use Rattle.judge.proofs.judge_joins.Tie as tie
-use Rattle.judge.proofs.judge_joins.Reads as reads
-use Rattle.judge.proofs.judge_joins.Lts as lts
 
--- src/lib.rt:202:9
 returns : tie.Need-returns
 returns c = fails _ _ _ (c .before .pre) (c .if1 .taken)
 
--- src/lib.rt:196:1
 returns-2 : tie.Need-returns-2
 returns-2 c = holds-last _ _ (c .before .pre) (c .if1 .left)
 

@@ -5,23 +5,16 @@ use Rattle.judge.proofs.Links.{sources-hold, sources-fail}
 use Rattle.judge.proofs.Chain.{fails, holds-all}
 use Rattle.judge.proofs.judge_sources.Statement.{statement}
 use Rattle.judge.proofs.judge_sources.Tie as tie
-use Rattle.judge.proofs.judge_sources.Reads as reads
-use Rattle.judge.proofs.judge_sources.Lts as lts
-use Rattle.judge.proofs.judge_joins.Reads as judge-joins-reads
 
--- src/lib.rt:219:17
 cast-place : tie.Need-cast-place
 cast-place c = omega (arith, trailing-le 64 (c .before .before .before .args .notes .twice))
 
--- src/lib.rt:221:9
 returns : tie.Need-returns
 returns c = let p = c .before .before .before .before .pre in fails _ _ _ (sources-fail _ _ _ _ (p .few-links) (p .doubled) (c .if1 .taken)) (c .if1 .taken)
 
--- src/lib.rt:223:5
 judge-joins-requires : tie.Need-judge-joins-requires
 judge-joins-requires c κs = c .before .before .before .before .pre .joined
 
--- src/lib.rt:214:1
 returns-2 : tie.Need-returns-2
 returns-2 c = let p = c .before .before .before .before .before .pre in c .judge-joins .ensures ∙ holds-all _ _ (sources-hold _ _ _ _ (p .few-links) (p .doubled) (c .before .if1 .left))
 

@@ -3,19 +3,13 @@ use Rattle.judge.proofs.Pass.{misnamed-fails}
 use native.Mathlib.Omega.{arith}
 use Rattle.judge.proofs.judge_tree.Statement.{statement}
 use Rattle.judge.proofs.judge_tree.Tie as tie
-use Rattle.judge.proofs.judge_tree.Reads as reads
-use Rattle.judge.proofs.judge_tree.Lts as lts
-use Rattle.judge.proofs.bad_term.Reads as bad-term-reads
 
--- src/lib.rt:232:9
 bad-term-requires : tie.Need-bad-term-requires
 bad-term-requires c κs = let p = c .before .before .pre in (p .lent .terms-lent, (omega (arith, p .high), p .sound))
 
--- src/lib.rt:234:9
 returns : tie.Need-returns
 returns c = fails _ _ _ (c .before .bad-term .ensures) (c .if1 .taken)
 
--- src/lib.rt:227:1
 returns-2 : tie.Need-returns-2
 returns-2 c = misnamed-fails _ _ (c .before .before .before .before .pre) _ (c .before .bad-term .ensures) (c .if1 .left)
 

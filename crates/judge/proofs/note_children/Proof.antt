@@ -6,36 +6,25 @@ use Rattle.judge.proofs.Counts.{bumped-few, one-child, two-children}
 use borrow.Author.Needs.{needs}
 use Rattle.judge.proofs.note_children.Statement.{statement}
 use Rattle.judge.proofs.note_children.Tie as tie
-use Rattle.judge.proofs.note_children.Reads as reads
-use Rattle.judge.proofs.note_children.Lts as lts
-use Rattle.judge.proofs.bump.Reads as bump-reads
-use Rattle.rows.proofs.first_by.Reads as first-by-reads
-use Rattle.rows.proofs.second_by.Reads as second-by-reads
 
--- src/lib.rt:128:17
 first-by-requires : tie.Need-first-by-requires
 first-by-requires c κs = search needs
 
--- src/lib.rt:128:5
 bump-requires : tie.Need-bump-requires
 unfolding Few
 bump-requires c κs = omega (arith, c .before .before .pre .1 (c .first-by .result))
 
--- src/lib.rt:130:21
 second-by-requires : tie.Need-second-by-requires
 second-by-requires c κs = search needs
 
--- src/lib.rt:130:9
 bump-requires-2 : tie.Need-bump-requires-2
 unfolding Few
 bump-requires-2 c κs = let g : Few (c .before .before .before .bump .last .0) 512 = rw (c .before .before .before .bump .ensures) (bumped-few (c .before .before .before .before .before .before .args .named .now) (c .before .before .before .before .first-by .result) 511 (omega (arith, c .before .before .before .before .before .before .pre .0)) (c .before .before .before .before .before .before .pre .1)) in
     omega (arith, g (c .second-by .result))
 
--- src/lib.rt:124:1
 returns : tie.Need-returns
 returns c = rw (c .bump2 .ensures, c .before .before .before .before .bump .ensures, c .before .second-by .ensures, c .before .before .before .before .before .first-by .ensures) (two-children (c .before .before .before .before .before .before .before .args .named .now) _ (omega (arith, c .before .before .before .before .before .before .before .pre .0, c .before .before .before .before .before .first-by .ensures)) (omega (arith, c .before .before .before .before .before .before .before .pre .0, c .before .second-by .ensures)))
 
--- src/lib.rt:124:1
 returns-2 : tie.Need-returns-2
 returns-2 c = let k = c .before .before .before .before .args .kind in
     rw (c .before .bump .ensures, c .before .before .first-by .ensures) (one-child (c .before .before .before .before .args .named .now) _ (omega (arith, c .before .before .before .before .pre .0, c .before .before .first-by .ensures)) (row-one-child k _ _ _ (ne-eqb k 4 (λ e. omega arith)) (ne-eqb k 5 (λ e. omega arith))))

@@ -5,21 +5,15 @@ use Rattle.judge.specs.Judge.{joinNoted}
 use borrow.Author.Needs.{needs}
 use Rattle.judge.proofs.note_join.Statement.{statement}
 use Rattle.judge.proofs.note_join.Tie as tie
-use Rattle.judge.proofs.note_join.Reads as reads
-use Rattle.judge.proofs.note_join.Lts as lts
-use Rattle.reach.proofs.width.Reads as width-reads
 
--- src/lib.rt:155:9
 width-requires : tie.Need-width-requires
 width-requires c κs = search needs
 
--- src/lib.rt:156:9
 returns : tie.Need-returns
 unfolding joinNoted
 returns c = let w = c .before .before .width in
     rw (← w .ensures, ← or-is (leb (w .result) 8) (ltb (c .before .before .before .args .notes .join) (c .before .before .before .args .n)), c .if1 .taken) refl
 
--- src/lib.rt:152:1
 returns-2 : tie.Need-returns-2
 unfolding joinNoted
 returns-2 c = let w = c .before .before .width in

@@ -3,38 +3,29 @@ use Rattle.sheet.specs.Rules.{sized}
 use borrow.Author.Needs.{needs}
 use Rattle.judge.proofs.sized_ok.Statement.{statement}
 use Rattle.judge.proofs.sized_ok.Tie as tie
-use Rattle.judge.proofs.sized_ok.Reads as reads
-use Rattle.judge.proofs.sized_ok.Lts as lts
 
--- src/lib.rt:26:9
 returns : tie.Need-returns
 unfolding sized
 returns c = rw (lt-leb 1 _ (c .if1 .taken))
 
--- src/lib.rt:29:9
 returns-2 : tie.Need-returns-2
 unfolding sized
 returns-2 c = rw (le-leb 1 _ (c .before .if1 .left), lt-leb _ 256 (c .if2 .taken))
 
--- src/lib.rt:32:9
 returns-3 : tie.Need-returns-3
 unfolding sized
 returns-3 c = rw (le-leb 1 _ (c .before .before .if1 .left), le-leb _ 256 (c .before .if2 .left), lt-leb _ 256 (c .if3 .taken))
 
--- src/lib.rt:34:13
 mul-if4 : tie.Need-mul-if4
 mul-if4 c = search needs
 
--- src/lib.rt:35:9
 returns-4 : tie.Need-returns-4
 unfolding sized
 returns-4 c = rw (le-leb 1 _ (c .before .before .before .if1 .left), le-leb _ 256 (c .before .before .if2 .left), le-leb _ 256 (c .before .if3 .left), lt-leb _ _ (c .if4 .taken))
 
--- src/lib.rt:37:5
 mul-result : tie.Need-mul-result
 mul-result c = search needs
 
--- src/lib.rt:22:1
 returns-5 : tie.Need-returns-5
 unfolding sized
 returns-5 c = rw (le-leb 1 _ (c .before .before .before .if1 .left), le-leb _ 256 (c .before .before .if2 .left), le-leb _ 256 (c .before .if3 .left), le-leb _ _ (c .if4 .left))

@@ -3,20 +3,14 @@ use Rattle.lanes.proofs.Operators.{lazy-is, strict-is, and-lazy, and-st
 use borrow.Author.Needs.{needs}
 use Rattle.lanes.proofs.and.Statement.{statement}
 use Rattle.lanes.proofs.and.Tie as tie
-use Rattle.lanes.proofs.and.Reads as reads
-use Rattle.lanes.proofs.and.Lts as lts
-use Rattle.evaluate.proofs.is_lazy.Reads as is-lazy-reads
 
--- src/lib.rt:38:8
 is-lazy-requires : tie.Need-is-lazy-requires
 is-lazy-requires c κs = search needs
 
--- src/lib.rt:39:9
 returns : tie.Need-returns
 returns c = let branch = c .before .before .before .before .before .before .before .before in
     and-lazy _ (lazy-is _ (sym (branch .before .is-lazy .ensures) ∙ branch .if1 .taken)) (branch .before .before .args .a) (branch .before .before .args .b)
 
--- src/lib.rt:35:1
 returns-2 : tie.Need-returns-2
 returns-2 c = let branch = c .before .before .before .before .before .before .before .before in
     and-strict _ (strict-is _ (sym (branch .before .is-lazy .ensures) ∙ branch .if1 .left)) (branch .before .before .args .a) (branch .before .before .args .b)

@@ -1,14 +1,10 @@
 use Rattle.lanes.proofs.Operators.{true-lanes, false-lanes}
 use Rattle.lanes.proofs.constant.Statement.{statement}
 use Rattle.lanes.proofs.constant.Tie as tie
-use Rattle.lanes.proofs.constant.Reads as reads
-use Rattle.lanes.proofs.constant.Lts as lts
 
--- src/lib.rt:23:9
 returns : tie.Need-returns
 returns c = rw (c .if1 .taken) true-lanes
 
--- src/lib.rt:19:1
 returns-2 : tie.Need-returns-2
 returns-2 c = rw (c .if1 .left) false-lanes
 

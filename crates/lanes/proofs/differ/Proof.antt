@@ -1,10 +1,7 @@
 use Rattle.lanes.proofs.Operators.{ne-lanes}
 use Rattle.lanes.proofs.differ.Statement.{statement}
 use Rattle.lanes.proofs.differ.Tie as tie
-use Rattle.lanes.proofs.differ.Reads as reads
-use Rattle.lanes.proofs.differ.Lts as lts
 
--- src/lib.rt:74:1
 returns : tie.Need-returns
 returns c = ne-lanes _ _ _
 

@@ -1,10 +1,7 @@
 use Rattle.lanes.proofs.Operators.{eq-lanes}
 use Rattle.lanes.proofs.equal.Statement.{statement}
 use Rattle.lanes.proofs.equal.Tie as tie
-use Rattle.lanes.proofs.equal.Reads as reads
-use Rattle.lanes.proofs.equal.Lts as lts
 
--- src/lib.rt:65:1
 returns : tie.Need-returns
 returns c = eq-lanes _ _ _
 

@@ -3,31 +3,23 @@ use Rattle.lanes.specs.Lanes.{linkLanes}
 use borrow.Author.Needs.{needs}
 use Rattle.lanes.proofs.of_link.Statement.{statement}
 use Rattle.lanes.proofs.of_link.Tie as tie
-use Rattle.lanes.proofs.of_link.Reads as reads
-use Rattle.lanes.proofs.of_link.Lts as lts
 
--- src/lib.rt:108:9
 returns : tie.Need-returns
 unfolding linkLanes
 returns c = rw (le-ltb _ 64 (c .if1 .taken))
 
--- src/lib.rt:114:13
 mul-t : tie.Need-mul-t
 mul-t c = search needs
 
--- src/lib.rt:114:13
 element-copy-out-t : tie.Need-element-copy-out-t
 element-copy-out-t c = search needs
 
--- src/lib.rt:117:17
 mul-t7 : tie.Need-mul-t7
 mul-t7 c = search needs
 
--- src/lib.rt:117:17
 element-copy-out-t10 : tie.Need-element-copy-out-t10
 element-copy-out-t10 c = search needs
 
--- src/lib.rt:104:1
 returns-2 : tie.Need-returns-2
 unfolding linkLanes
 returns-2 c = rw (lt-ltb _ 64 (c .before .before .if1 .left))

@@ -3,20 +3,14 @@ use Rattle.lanes.proofs.Operators.{lazy-is, strict-is, or-lazy, or-stri
 use borrow.Author.Needs.{needs}
 use Rattle.lanes.proofs.or.Statement.{statement}
 use Rattle.lanes.proofs.or.Tie as tie
-use Rattle.lanes.proofs.or.Reads as reads
-use Rattle.lanes.proofs.or.Lts as lts
-use Rattle.evaluate.proofs.is_lazy.Reads as is-lazy-reads
 
--- src/lib.rt:53:8
 is-lazy-requires : tie.Need-is-lazy-requires
 is-lazy-requires c κs = search needs
 
--- src/lib.rt:54:9
 returns : tie.Need-returns
 returns c = let branch = c .before .before .before .before .before .before .before .before in
     or-lazy _ (lazy-is _ (sym (branch .before .is-lazy .ensures) ∙ branch .if1 .taken)) (branch .before .before .args .a) (branch .before .before .args .b)
 
--- src/lib.rt:50:1
 returns-2 : tie.Need-returns-2
 returns-2 c = let branch = c .before .before .before .before .before .before .before .before in
     or-strict _ (strict-is _ (sym (branch .before .is-lazy .ensures) ∙ branch .if1 .left)) (branch .before .before .args .a) (branch .before .before .args .b)

@@ -7,15 +7,6 @@ use Rattle.lanes.proofs.Rows.{stepped-false, stepped-true, stepped-link
 use borrow.Author.Needs.{needs}
 use Rattle.lanes.proofs.row_by.Statement.{statement}
 use Rattle.lanes.proofs.row_by.Tie as tie
-use Rattle.lanes.proofs.row_by.Reads as reads
-use Rattle.lanes.proofs.row_by.Lts as lts
-use Rattle.lanes.proofs.and.Reads as and-reads
-use Rattle.lanes.proofs.constant.Reads as constant-reads
-use Rattle.lanes.proofs.differ.Reads as differ-reads
-use Rattle.lanes.proofs.equal.Reads as equal-reads
-use Rattle.lanes.proofs.of_link.Reads as of-link-reads
-use Rattle.lanes.proofs.of_row.Reads as of-row-reads
-use Rattle.lanes.proofs.or.Reads as or-reads
 
 from-four : (k : ℕ) → (k ≡ 0 → ⊥) → (k ≡ 1 → ⊥) → (k ≡ 2 → ⊥) → (k ≡ 3 → ⊥) → 4 ≤ k
 from-four k a b c d = omega arith
@@ -23,82 +14,64 @@ from-four k a b c d = omega arith
 from-seven : (k : ℕ) → 4 ≤ k → (k ≡ 4 → ⊥) → (k ≡ 5 → ⊥) → (k ≡ 6 → ⊥) → 7 ≤ k
 from-seven k h e f g = omega arith
 
--- src/lib.rt:134:9
 of-row-requires : tie.Need-of-row-requires
 of-row-requires c κs = search needs
 
--- src/lib.rt:135:9
 of-row-requires-2 : tie.Need-of-row-requires-2
 of-row-requires-2 c κs = search needs
 
--- src/lib.rt:137:14
 constant-requires : tie.Need-constant-requires
 constant-requires c κs = search needs
 
--- src/lib.rt:138:14
 constant-requires-2 : tie.Need-constant-requires-2
 constant-requires-2 c κs = search needs
 
--- src/lib.rt:139:14
 of-link-requires : tie.Need-of-link-requires
 of-link-requires c κs = search needs
 
--- src/lib.rt:140:14
 and-requires : tie.Need-and-requires
 and-requires c κs = search needs
 
--- src/lib.rt:141:14
 or-requires : tie.Need-or-requires
 or-requires c κs = search needs
 
--- src/lib.rt:142:14
 equal-requires : tie.Need-equal-requires
 equal-requires c κs = search needs
 
--- src/lib.rt:143:14
 differ-requires : tie.Need-differ-requires
 differ-requires c κs = search needs
 
--- src/lib.rt:144:14
 constant-requires-3 : tie.Need-constant-requires-3
 constant-requires-3 c κs = search needs
 
--- src/lib.rt:121:1
 returns : tie.Need-returns
 unfolding conditionRowBy
 returns c = rw (c .before .match .keys1) (stepped-false _ _ _ _ _ _ _ (c .constant .ensures))
 
--- src/lib.rt:121:1
 returns-2 : tie.Need-returns-2
 unfolding conditionRowBy
 returns-2 c = rw (c .before .match .keys2) (stepped-true _ _ _ _ _ _ _ (c .constant2 .ensures))
 
--- src/lib.rt:121:1
 returns-3 : tie.Need-returns-3
 unfolding conditionRowBy
 returns-3 c = rw (c .before .match .keys3) (stepped-link _ _ _ _ _ _ _ _ (c .of-link .ensures))
 
--- src/lib.rt:121:1
 returns-4 : tie.Need-returns-4
 unfolding conditionRowBy operatorOf
 returns-4 c = rw (c .before .match .keys4) (stepped-op _ _ _ _ _ _ _ _ (c .before .before .before .before .args .a) (c .before .before .before .before .args .b) _ _ (omega arith) (omega arith) (c .before .before .before .of-row .ensures) (c .before .before .of-row2 .ensures) (c .and .ensures))
 
--- src/lib.rt:121:1
 returns-5 : tie.Need-returns-5
 unfolding conditionRowBy operatorOf
 returns-5 c = rw (c .before .match .keys5) (stepped-op _ _ _ _ _ _ _ _ (c .before .before .before .before .args .a) (c .before .before .before .before .args .b) _ _ (omega arith) (omega arith) (c .before .before .before .of-row .ensures) (c .before .before .of-row2 .ensures) (c .or .ensures))
 
--- src/lib.rt:121:1
 returns-6 : tie.Need-returns-6
 unfolding conditionRowBy operatorOf
 returns-6 c = rw (c .before .match .keys6) (stepped-op _ _ _ _ _ _ _ _ (c .before .before .before .before .args .a) (c .before .before .before .before .args .b) _ _ (omega arith) (omega arith) (c .before .before .before .of-row .ensures) (c .before .before .of-row2 .ensures) (c .equal .ensures))
 
--- src/lib.rt:121:1
 returns-7 : tie.Need-returns-7
 unfolding conditionRowBy operatorOf
 returns-7 c = rw (c .before .match .keys7) (stepped-op _ _ _ _ _ _ _ _ (c .before .before .before .before .args .a) (c .before .before .before .before .args .b) _ _ (omega arith) (omega arith) (c .before .before .before .of-row .ensures) (c .before .before .of-row2 .ensures) (c .differ .ensures))
 
--- src/lib.rt:121:1
 returns-8 : tie.Need-returns-8
 unfolding conditionRowBy
 returns-8 c = let m = c .before .match .rest in

@@ -25,7 +25,6 @@ digits-at t = and 1 digits-kinds.ps (is 1 digits-kinds.ps μ-digits t) digits.Pr
 abbrev digits-below : ℕ → In 1 digits-kinds.ps
 digits-below t = and 1 digits-kinds.ps (falls 1 digits-kinds.ps _<_ μ-digits t) digits.Pre
 
--- src/lib.rt:40:34
 digits-cast-put : (t : ℕ) → digits-lts.Need-cast-put (
   put-reads.Asked,
   put-reads.Learnt,
@@ -34,7 +33,6 @@ digits-cast-put : (t : ℕ) → digits-lts.Need-cast-put (
 ) (digits-at t) digits.Post
 digits-cast-put t c = search needs
 
--- src/lib.rt:40:29
 digits-add-put : (t : ℕ) → digits-lts.Need-add-put (
   put-reads.Asked,
   put-reads.Learnt,
@@ -43,7 +41,6 @@ digits-add-put : (t : ℕ) → digits-lts.Need-add-put (
 ) (digits-at t) digits.Post
 digits-add-put t c = search needs
 
--- src/lib.rt:40:9
 digits-put-requires : (t : ℕ) → digits-lts.Need-put-requires (
   put-reads.Asked,
   put-reads.Learnt,
@@ -52,7 +49,6 @@ digits-put-requires : (t : ℕ) → digits-lts.Need-put-requires (
 ) (digits-at t) digits.Post
 digits-put-requires t c κs = tt
 
--- src/lib.rt:40:9
 digits-same-length : (t : ℕ) → digits-lts.Need-same-length (
   put-reads.Asked,
   put-reads.Learnt,
@@ -61,7 +57,6 @@ digits-same-length : (t : ℕ) → digits-lts.Need-same-length (
 ) (digits-at t) digits.Post
 digits-same-length t c = search needs
 
--- src/lib.rt:40:9
 digits-returns : (t : ℕ) → digits-lts.Need-returns (
   put-reads.Asked,
   put-reads.Learnt,
@@ -70,7 +65,6 @@ digits-returns : (t : ℕ) → digits-lts.Need-returns (
 ) (digits-at t) digits.Post
 digits-returns t c = byte _ _ _ (c .before .before .put .ensures) ∙ ap (added _) (sym (decimal-one _ (c .before .before .before .before .if1 .taken)))
 
--- src/lib.rt:42:9
 digits-digits-requires : (t : ℕ) → digits-lts.Need-digits-requires (
   put-reads.Asked,
   put-reads.Learnt,
@@ -79,7 +73,6 @@ digits-digits-requires : (t : ℕ) → digits-lts.Need-digits-requires (
 ) (digits-at t) digits.Post
 digits-digits-requires t c κs = (omega (arith, c .before .before .before .pre .0, c .before .if1 .left), tt)
 
--- src/lib.rt:43:24
 digits-cast-put-2 : (t : ℕ) → digits-lts.Need-cast-put-2 (
   put-reads.Asked,
   put-reads.Learnt,
@@ -88,7 +81,6 @@ digits-cast-put-2 : (t : ℕ) → digits-lts.Need-cast-put-2 (
 ) (digits-at t) digits.Post
 digits-cast-put-2 t c = search needs
 
--- src/lib.rt:43:19
 digits-add-put-2 : (t : ℕ) → digits-lts.Need-add-put-2 (
   put-reads.Asked,
   put-reads.Learnt,
@@ -97,7 +89,6 @@ digits-add-put-2 : (t : ℕ) → digits-lts.Need-add-put-2 (
 ) (digits-at t) digits.Post
 digits-add-put-2 t c = search needs
 
--- src/lib.rt:43:5
 digits-put-requires-2 : (t : ℕ) → digits-lts.Need-put-requires-2 (
   put-reads.Asked,
   put-reads.Learnt,
@@ -106,7 +97,6 @@ digits-put-requires-2 : (t : ℕ) → digits-lts.Need-put-requires-2 (
 ) (digits-at t) digits.Post
 digits-put-requires-2 t c κs = tt
 
--- src/lib.rt:36:1
 digits-same-length-2 : (t : ℕ) → digits-lts.Need-same-length-2 (
   put-reads.Asked,
   put-reads.Learnt,
@@ -115,7 +105,6 @@ digits-same-length-2 : (t : ℕ) → digits-lts.Need-same-length-2 (
 ) (digits-at t) digits.Post
 digits-same-length-2 t c = search needs
 
--- src/lib.rt:36:1
 digits-returns-2 : (t : ℕ) → digits-lts.Need-returns-2 (
   put-reads.Asked,
   put-reads.Learnt,

@@ -2,27 +2,19 @@ use Rattle.lines.specs.Lines.{stepLine}
 use borrow.Author.Needs.{needs}
 use Rattle.lines.proofs.act_line.Statement.{statement}
 use Rattle.lines.proofs.act_line.Tie as tie
-use Rattle.lines.proofs.act_line.Reads as reads
-use Rattle.lines.proofs.act_line.Lts as lts
-use Rattle.lines.proofs.named_line.Reads as named-line-reads
 
--- src/lib.rt:111:30
 slice-aggregate-named-line : tie.Need-slice-aggregate-named-line
 slice-aggregate-named-line c = search needs
 
--- src/lib.rt:111:39
 slice-aggregate-named-line-2 : tie.Need-slice-aggregate-named-line-2
 slice-aggregate-named-line-2 c = search needs
 
--- src/lib.rt:111:5
 named-line-requires : tie.Need-named-line-requires
 named-line-requires c κs = search needs
 
--- src/lib.rt:107:1
 same-length : tie.Need-same-length
 same-length c = search needs
 
--- src/lib.rt:107:1
 returns : tie.Need-returns
 unfolding stepLine
 returns c = c .before .before .named-line .ensures

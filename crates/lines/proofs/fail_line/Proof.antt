@@ -3,41 +3,28 @@ use Rattle.lines.proofs.Pages.{byte, then}
 use borrow.Author.Needs.{needs}
 use Rattle.lines.proofs.fail_line.Statement.{statement}
 use Rattle.lines.proofs.fail_line.Tie as tie
-use Rattle.lines.proofs.fail_line.Reads as reads
-use Rattle.lines.proofs.fail_line.Lts as lts
-use Rattle.lines.proofs.number.Reads as number-reads
-use Rattle.lines.proofs.put.Reads as put-reads
-use Rattle.lines.proofs.text.Reads as text-reads
 
--- src/lib.rt:79:30
 slice-aggregate-text : tie.Need-slice-aggregate-text
 slice-aggregate-text c = search needs
 
--- src/lib.rt:79:9
 text-requires : tie.Need-text-requires
 text-requires c κs = search needs
 
--- src/lib.rt:80:9
 number-requires : tie.Need-number-requires
 number-requires c κs = search needs
 
--- src/lib.rt:81:9
 number-requires-2 : tie.Need-number-requires-2
 number-requires-2 c κs = search needs
 
--- src/lib.rt:82:9
 number-requires-3 : tie.Need-number-requires-3
 number-requires-3 c κs = search needs
 
--- src/lib.rt:83:5
 put-requires : tie.Need-put-requires
 put-requires c κs = search needs
 
--- src/lib.rt:76:1
 same-length : tie.Need-same-length
 same-length c = search needs
 
--- src/lib.rt:76:1
 returns : tie.Need-returns
 unfolding verdictLine
 returns c = then _ _ _ _ _ (c .before .before .before .before .before .before .before .before .before .before .before .before .before .before .before .before .before .before .text .ensures) (then _ _ _ _ _ (c .before .before .before .before .before .before .before .before .before .before .before .before .before .before .number .ensures) (then _ _ _ _ _ (c .before .before .before .before .before .before .before .before .before .before .number2 .ensures) (then _ _ _ _ _ (c .before .before .before .before .before .before .number3 .ensures) (byte _ _ _ (c .before .before .put .ensures)))))

@@ -4,49 +4,34 @@ use Rattle.lines.proofs.Pages.{byte, then, last-over, last-enabled}
 use borrow.Author.Needs.{needs}
 use Rattle.lines.proofs.last_line.Statement.{statement}
 use Rattle.lines.proofs.last_line.Tie as tie
-use Rattle.lines.proofs.last_line.Reads as reads
-use Rattle.lines.proofs.last_line.Lts as lts
-use Rattle.lines.proofs.numbers.Reads as numbers-reads
-use Rattle.lines.proofs.put.Reads as put-reads
-use Rattle.lines.proofs.text.Reads as text-reads
 
--- src/lib.rt:174:30
 slice-aggregate-text : tie.Need-slice-aggregate-text
 slice-aggregate-text c = search needs
 
--- src/lib.rt:174:9
 text-requires : tie.Need-text-requires
 text-requires c κs = search needs
 
--- src/lib.rt:174:9
 same-length : tie.Need-same-length
 same-length c = search needs
 
--- src/lib.rt:174:9
 returns : tie.Need-returns
 returns c = c .before .before .text .ensures ∙ ap (added _) (sym (last-over _ (c .before .before .before .before .before .if1 .taken)))
 
--- src/lib.rt:176:30
 slice-aggregate-text-2 : tie.Need-slice-aggregate-text-2
 slice-aggregate-text-2 c = search needs
 
--- src/lib.rt:176:9
 text-requires-2 : tie.Need-text-requires-2
 text-requires-2 c κs = search needs
 
--- src/lib.rt:177:9
 numbers-requires : tie.Need-numbers-requires
 numbers-requires c κs = search needs
 
--- src/lib.rt:178:5
 put-requires : tie.Need-put-requires
 put-requires c κs = search needs
 
--- src/lib.rt:170:1
 same-length-2 : tie.Need-same-length-2
 same-length-2 c = search needs
 
--- src/lib.rt:170:1
 returns-2 : tie.Need-returns-2
 returns-2 c = then _ _ _ _ _ (c .before .before .before .before .before .before .before .before .before .before .text2 .ensures) (then _ _ _ _ _ (c .before .before .before .before .before .before .numbers .ensures) (byte _ _ _ (c .before .before .put .ensures))) ∙ ap (added _) (sym (last-enabled _ (c .before .before .before .before .before .before .before .before .before .before .before .before .before .if1 .left)))
 

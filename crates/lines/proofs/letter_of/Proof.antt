@@ -2,20 +2,15 @@ use borrow.Author.Tests.{ne-eqb}
 use Rattle.lines.specs.Lines.{letter}
 use Rattle.lines.proofs.letter_of.Statement.{statement}
 use Rattle.lines.proofs.letter_of.Tie as tie
-use Rattle.lines.proofs.letter_of.Reads as reads
-use Rattle.lines.proofs.letter_of.Lts as lts
 
--- src/lib.rt:138:9
 returns : tie.Need-returns
 unfolding letter
 returns c = rw (c .if1 .taken)
 
--- src/lib.rt:141:9
 returns-2 : tie.Need-returns-2
 unfolding letter
 returns-2 c = rw (c .if2 .taken)
 
--- src/lib.rt:134:1
 returns-3 : tie.Need-returns-3
 unfolding letter
 returns-3 c = rw (ne-eqb _ 0 (c .before .if1 .left), ne-eqb _ 1 (c .if2 .left))

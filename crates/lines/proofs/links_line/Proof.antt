@@ -5,53 +5,37 @@ use Rattle.lines.proofs.Pages.{byte, then, links-none, links-some}
 use borrow.Author.Needs.{needs}
 use Rattle.lines.proofs.links_line.Statement.{statement}
 use Rattle.lines.proofs.links_line.Tie as tie
-use Rattle.lines.proofs.links_line.Reads as reads
-use Rattle.lines.proofs.links_line.Lts as lts
-use Rattle.lines.proofs.put.Reads as put-reads
-use Rattle.lines.proofs.put_letters.Reads as put-letters-reads
-use Rattle.lines.proofs.text.Reads as text-reads
 
--- src/lib.rt:163:30
 slice-aggregate-text : tie.Need-slice-aggregate-text
 slice-aggregate-text c = search needs
 
--- src/lib.rt:163:9
 text-requires : tie.Need-text-requires
 text-requires c κs = search needs
 
--- src/lib.rt:163:9
 same-length : tie.Need-same-length
 same-length c = search needs
 
--- src/lib.rt:163:9
 returns : tie.Need-returns
 returns c = c .before .before .text .ensures ∙ ap (added _) (sym (links-none _ _ (c .before .before .before .before .before .if1 .taken)))
 
--- src/lib.rt:165:30
 slice-aggregate-text-2 : tie.Need-slice-aggregate-text-2
 slice-aggregate-text-2 c = search needs
 
--- src/lib.rt:165:9
 text-requires-2 : tie.Need-text-requires-2
 text-requires-2 c κs = search needs
 
--- src/lib.rt:166:43
 slice-aggregate-put-letters : tie.Need-slice-aggregate-put-letters
 slice-aggregate-put-letters c = sym (length-take-le _ _ (c .before .before .before .before .before .before .before .before .before .before .pre))
 
--- src/lib.rt:166:9
 put-letters-requires : tie.Need-put-letters-requires
 put-letters-requires c κs = search needs
 
--- src/lib.rt:167:5
 put-requires : tie.Need-put-requires
 put-requires c κs = search needs
 
--- src/lib.rt:158:1
 same-length-2 : tie.Need-same-length-2
 same-length-2 c = search needs
 
--- src/lib.rt:158:1
 returns-2 : tie.Need-returns-2
 returns-2 c = then _ _ _ _ _ (c .before .before .before .before .before .before .before .before .before .before .before .text2 .ensures) (then _ _ _ _ _ (c .before .before .before .before .before .before .put-letters .ensures) (byte _ _ _ (c .before .before .put .ensures))) ∙ ap (added _) (sym (links-some _ _ (c .before .before .before .before .before .before .before .before .before .before .before .before .before .before .if1 .left)))
 

@@ -6,9 +6,6 @@ use native.Mathlib.Omega.{arith}
 use borrow.Author.Needs.{needs}
 use Rattle.lines.proofs.numbers.Statement.{statement}
 use Rattle.lines.proofs.numbers.Tie as tie
-use Rattle.lines.proofs.numbers.Reads as reads
-use Rattle.lines.proofs.numbers.Lts as lts
-use Rattle.lines.proofs.small_number.Reads as small-number-reads
 
 abbrev Inv-loop : tie.InvT-loop
 Inv-loop out₀ at xs end₀ i₀ out end i = Adding out₀ at (fields xs) out end (fields (drop i xs))
@@ -16,35 +13,27 @@ Inv-loop out₀ at xs end₀ i₀ out end i = Adding out₀ at (fields xs) out e
 abbrev μ-loop : tie.MeasureT-loop
 μ-loop out₀ at xs end₀ i₀ out end i = length xs - i
 
--- src/lib.rt:66:5
 loop-holds : tie.Need-loop-holds Inv-loop μ-loop
 loop-holds c = adding-none _ _ _
 
--- src/lib.rt:67:38
 shared-slice-read-small-number : tie.Need-shared-slice-read-small-number Inv-loop μ-loop
 shared-slice-read-small-number c = search needs
 
--- src/lib.rt:67:9
 small-number-requires : tie.Need-small-number-requires Inv-loop μ-loop
 small-number-requires c κs = tt
 
--- src/lib.rt:68:9
 add-i : tie.Need-add-i Inv-loop μ-loop
 add-i c = search needs
 
--- src/lib.rt:66:5
 loop-less : tie.Need-loop-less Inv-loop μ-loop
 loop-less c = omega (arith, c .before .before .before .before .before .loop-test .taken)
 
--- src/lib.rt:66:5
 loop-again : tie.Need-loop-again Inv-loop μ-loop
 loop-again c = adding-more _ _ _ _ _ _ _ (field (getD (c .before .before .before .before .before .before .before .before .before .args .xs .now) (c .before .before .before .before .before .before .loop .i) 0)) _ _ (c .before .before .before .before .before .before .loop .inv) (fields-next _ _ (c .before .before .before .before .before .loop-test .taken)) (c .before .before .small-number .ensures)
 
--- src/lib.rt:61:1
 same-length : tie.Need-same-length Inv-loop μ-loop
 same-length c = c .before .loop .inv .kept
 
--- src/lib.rt:61:1
 returns : tie.Need-returns Inv-loop μ-loop
 returns c = adding-all _ _ _ _ _ _ (c .before .loop .inv) (fields-end _ _ (c .loop-test .left))
 

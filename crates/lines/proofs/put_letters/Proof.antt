@@ -9,10 +9,6 @@ use native.Mathlib.Omega.{arith}
 use borrow.Author.Needs.{needs}
 use Rattle.lines.proofs.put_letters.Statement.{statement}
 use Rattle.lines.proofs.put_letters.Tie as tie
-use Rattle.lines.proofs.put_letters.Reads as reads
-use Rattle.lines.proofs.put_letters.Lts as lts
-use Rattle.lines.proofs.letter_of.Reads as letter-of-reads
-use Rattle.lines.proofs.put.Reads as put-reads
 
 abbrev Inv-loop : tie.InvT-loop
 Inv-loop out₀ at xs end₀ i₀ out end i = Adding out₀ at (letters xs) out end (letters (drop i xs))
@@ -20,39 +16,30 @@ Inv-loop out₀ at xs end₀ i₀ out end i = Adding out₀ at (letters xs) out 
 abbrev μ-loop : tie.MeasureT-loop
 μ-loop out₀ at xs end₀ i₀ out end i = length xs - i
 
--- src/lib.rt:151:5
 loop-holds : tie.Need-loop-holds Inv-loop μ-loop
 loop-holds c = adding-none _ _ _
 
--- src/lib.rt:152:39
 shared-slice-read-letter-of : tie.Need-shared-slice-read-letter-of Inv-loop μ-loop
 shared-slice-read-letter-of c = search needs
 
--- src/lib.rt:152:29
 letter-of-requires : tie.Need-letter-of-requires Inv-loop μ-loop
 letter-of-requires c κs = tt
 
--- src/lib.rt:152:9
 put-requires : tie.Need-put-requires Inv-loop μ-loop
 put-requires c κs = tt
 
--- src/lib.rt:153:9
 add-i : tie.Need-add-i Inv-loop μ-loop
 add-i c = search needs
 
--- src/lib.rt:151:5
 loop-less : tie.Need-loop-less Inv-loop μ-loop
 loop-less c = omega arith
 
--- src/lib.rt:151:5
 loop-again : tie.Need-loop-again Inv-loop μ-loop
 loop-again c = adding-more _ _ _ _ _ _ _ (letter (getD (c .before .before .before .before .before .before .before .before .before .before .args .xs .now) (c .before .before .before .before .before .before .before .loop .i) 0) ∷ []) _ _ (c .before .before .before .before .before .before .before .loop .inv) (letters-next _ _ (c .before .before .before .before .before .before .loop-test .taken)) (byte _ _ _ (c .before .before .put .ensures ∙ ap (more _) (c .before .before .before .letter-of .ensures)))
 
--- src/lib.rt:146:1
 same-length : tie.Need-same-length Inv-loop μ-loop
 same-length c = c .before .loop .inv .kept
 
--- src/lib.rt:146:1
 returns : tie.Need-returns Inv-loop μ-loop
 returns c = adding-all _ _ _ _ _ _ (c .before .loop .inv) (letters-end _ _ (c .loop-test .left))
 

@@ -3,38 +3,25 @@ use Rattle.lines.proofs.Pages.{byte, then}
 use borrow.Author.Needs.{needs}
 use Rattle.lines.proofs.refused_line.Statement.{statement}
 use Rattle.lines.proofs.refused_line.Tie as tie
-use Rattle.lines.proofs.refused_line.Reads as reads
-use Rattle.lines.proofs.refused_line.Lts as lts
-use Rattle.lines.proofs.number.Reads as number-reads
-use Rattle.lines.proofs.put.Reads as put-reads
-use Rattle.lines.proofs.small_number.Reads as small-number-reads
-use Rattle.lines.proofs.text.Reads as text-reads
 
--- src/lib.rt:76:30
 slice-aggregate-text : tie.Need-slice-aggregate-text
 slice-aggregate-text c = search needs
 
--- src/lib.rt:76:9
 text-requires : tie.Need-text-requires
 text-requires c κs = search needs
 
--- src/lib.rt:77:9
 small-number-requires : tie.Need-small-number-requires
 small-number-requires c κs = search needs
 
--- src/lib.rt:78:9
 number-requires : tie.Need-number-requires
 number-requires c κs = search needs
 
--- src/lib.rt:79:5
 put-requires : tie.Need-put-requires
 put-requires c κs = search needs
 
--- src/lib.rt:73:1
 same-length : tie.Need-same-length
 same-length c = search needs
 
--- src/lib.rt:73:1
 returns : tie.Need-returns
 unfolding refusedLine
 returns c = then _ _ _ _ _ (c .before .before .before .before .before .before .before .before .before .before .before .before .before .before .text .ensures) (then _ _ _ _ _ (c .before .before .before .before .before .before .before .before .before .before .small-number .ensures) (then _ _ _ _ _ (c .before .before .before .before .before .before .number .ensures) (byte _ _ _ (c .before .before .put .ensures))))

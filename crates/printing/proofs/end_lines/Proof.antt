@@ -11,67 +11,47 @@ use Rattle.printing.proofs.Runs.{list-lies, list-part, list-unrefused}
 use borrow.Author.Needs.{needs}
 use Rattle.printing.proofs.end_lines.Statement.{statement}
 use Rattle.printing.proofs.end_lines.Tie as tie
-use Rattle.printing.proofs.end_lines.Reads as reads
-use Rattle.printing.proofs.end_lines.Lts as lts
-use Rattle.lines.proofs.last_line.Reads as last-line-reads
-use Rattle.lines.proofs.links_line.Reads as links-line-reads
-use Rattle.lines.proofs.refused_line.Reads as refused-line-reads
-use Rattle.sheet_engine.proofs.list_steps.Reads as list-steps-reads
 
--- src/lib.rt:22:47
 slice-aggregate-links-line : tie.Need-slice-aggregate-links-line
 slice-aggregate-links-line c = search needs
 
--- src/lib.rt:22:9
 links-line-requires : tie.Need-links-line-requires
 links-line-requires c κs = let g = c .before .before .before .before .before .before .pre in omega (arith, formed g .few-links, g .sized .all-links)
 
--- src/lib.rt:24:50
 slice-aggregate-list-steps : tie.Need-slice-aggregate-list-steps
 slice-aggregate-list-steps c = search needs
 
--- src/lib.rt:24:11
 list-steps-requires : tie.Need-list-steps-requires
 list-steps-requires c κs = search needs
 
--- src/lib.rt:25:26
 enum-known-count : tie.Need-enum-known-count
 enum-known-count c = search needs
 
--- src/lib.rt:25:63
 array-share-prefix-rows : tie.Need-array-share-prefix-rows
 array-share-prefix-rows c = list-lies _ _ (c .before .before .before .before .before .before .before .before .before .before .before .before .before .before .before .before .pre) (replicate 256 0) refl _ _ (sym (c .before .before .count .given .1) ∙ c .before .before .before .before .before .list-steps .ensures .0) (c .before .before .before .before .before .list-steps .ensures .1)
 
--- src/lib.rt:25:63
 slice-aggregate-last-line : tie.Need-slice-aggregate-last-line
 slice-aggregate-last-line c = sym (length-take-le _ _ (list-lies _ _ (c .before .before .before .before .before .before .before .before .before .before .before .before .before .before .before .before .before .pre) (replicate 256 0) refl _ _ (sym (c .before .before .before .count .given .1) ∙ c .before .before .before .before .before .before .list-steps .ensures .0) (c .before .before .before .before .before .before .list-steps .ensures .1)))
 
--- src/lib.rt:25:36
 last-line-requires : tie.Need-last-line-requires
 last-line-requires c κs = search needs
 
--- src/lib.rt:26:29
 enum-known-number : tie.Need-enum-known-number
 enum-known-number c = search needs
 
--- src/lib.rt:26:47
 refused-line-requires : tie.Need-refused-line-requires
 refused-line-requires c κs = search needs
 
--- src/lib.rt:17:1
 same-length : tie.Need-same-length
 same-length c = search needs
 
--- src/lib.rt:17:1
 returns : tie.Need-returns
 unfolding endLines
 returns c = then _ _ _ _ _ (c .before .before .before .before .before .before .before .before .before .before .before .before .before .links-line .ensures) (c .before .before .last-line .ensures ∙ ap (added _) (ap lastLine (list-part _ _ (c .before .before .before .before .before .before .before .before .before .before .before .before .before .before .before .before .before .before .before .before .pre) (replicate 256 0) refl _ _ (sym (c .before .before .before .before .before .before .count .given .1) ∙ c .before .before .before .before .before .before .before .before .before .list-steps .ensures .0) (c .before .before .before .before .before .before .before .before .before .list-steps .ensures .1))))
 
--- src/lib.rt:17:1
 same-length-2 : tie.Need-same-length-2
 same-length-2 c = search needs
 
--- src/lib.rt:17:1
 returns-2 : tie.Need-returns-2
 returns-2 c = absurd (list-unrefused _ _ (c .before .before .before .before .before .before .before .before .before .before .before .before .before .before .before .before .before .before .before .pre) (replicate 256 0) refl _ _ (sym (c .before .before .before .before .before .number .given .1) ∙ c .before .before .before .before .before .before .before .before .list-steps .ensures .0))
 

@@ -4,101 +4,73 @@ use Rattle.printing.proofs.Judging.{leading-cut, sheet-cut, input-goes}
 use borrow.Author.Needs.{needs}
 use Rattle.printing.proofs.lines_of.Statement.{statement}
 use Rattle.printing.proofs.lines_of.Tie as tie
-use Rattle.printing.proofs.lines_of.Reads as reads
-use Rattle.printing.proofs.lines_of.Lts as lts
-use Rattle.lines.proofs.refused_line.Reads as refused-line-reads
-use Rattle.printing.proofs.sheet_lines.Reads as sheet-lines-reads
-use Rattle.printing.proofs.wide.Reads as wide-reads
 
--- src/lib.rt:98:9
 refused-line-requires : tie.Need-refused-line-requires
 refused-line-requires c κs = search needs
 
--- src/lib.rt:98:9
 same-length : tie.Need-same-length
 same-length c = search needs
 
--- src/lib.rt:98:9
 returns : tie.Need-returns
 returns c = c .before .before .refused-line .ensures ∙ ap (added _) (leading-cut _ (c .before .before .before .before .if1 .taken))
 
--- src/lib.rt:100:21
 shared-slice-read-wide : tie.Need-shared-slice-read-wide
 shared-slice-read-wide c = search needs
 
--- src/lib.rt:100:16
 wide-requires : tie.Need-wide-requires
 wide-requires c κs = search needs
 
--- src/lib.rt:100:44
 shared-slice-read-wide-2 : tie.Need-shared-slice-read-wide-2
 shared-slice-read-wide-2 c = search needs
 
--- src/lib.rt:100:39
 wide-requires-2 : tie.Need-wide-requires-2
 wide-requires-2 c κs = search needs
 
--- src/lib.rt:100:33
 mul-size : tie.Need-mul-size
 mul-size c = search needs
 
--- src/lib.rt:100:16
 add-size : tie.Need-add-size
 add-size c = search needs
 
--- src/lib.rt:102:9
 refused-line-requires-2 : tie.Need-refused-line-requires-2
 refused-line-requires-2 c κs = search needs
 
--- src/lib.rt:102:9
 same-length-2 : tie.Need-same-length-2
 same-length-2 c = search needs
 
--- src/lib.rt:102:9
 returns-2 : tie.Need-returns-2
 returns-2 c = c .before .before .refused-line2 .ensures ∙ ap (added _) (sheet-cut _ _ _ (c .before .before .before .before .before .before .before .wide .ensures .0) (c .before .before .before .before .before .wide2 .ensures .0) (c .before .before .before .before .before .before .before .before .before .if1 .left) (c .before .before .before .before .if2 .taken))
 
--- src/lib.rt:104:15
 add-end : tie.Need-add-end
 add-end c = search needs
 
--- src/lib.rt:105:22
 shared-slice-read-sheet-lines : tie.Need-shared-slice-read-sheet-lines
 shared-slice-read-sheet-lines c = search needs
 
--- src/lib.rt:105:32
 sub-sheet-lines : tie.Need-sub-sheet-lines
 sub-sheet-lines c = search needs
 
--- src/lib.rt:105:32
 part-sheet-lines-start : tie.Need-part-sheet-lines-start
 part-sheet-lines-start c = search needs
 
--- src/lib.rt:105:32
 part-sheet-lines-end : tie.Need-part-sheet-lines-end
 part-sheet-lines-end c = search needs
 
--- src/lib.rt:105:48
 sub-sheet-lines-2 : tie.Need-sub-sheet-lines-2
 sub-sheet-lines-2 c = search needs
 
--- src/lib.rt:105:48
 part-sheet-lines-start-2 : tie.Need-part-sheet-lines-start-2
 part-sheet-lines-start-2 c = search needs
 
--- src/lib.rt:105:48
 part-sheet-lines-end-2 : tie.Need-part-sheet-lines-end-2
 part-sheet-lines-end-2 c = search needs
 
--- src/lib.rt:105:5
 sheet-lines-requires : tie.Need-sheet-lines-requires
 sheet-lines-requires c κs = search needs
 
--- src/lib.rt:93:1
 same-length-3 : tie.Need-same-length-3
 same-length-3 c = search needs
 
--- src/lib.rt:93:1
 returns-3 : tie.Need-returns-3
 returns-3 c = c .before .before .sheet-lines .ensures ∙ ap (added _) (input-goes _ _ _ (c .before .before .before .before .before .before .before .before .before .before .wide .ensures .0) (c .before .before .before .before .before .before .before .before .wide2 .ensures .0) (c .before .before .before .before .before .before .before .before .before .before .before .before .if1 .left) (c .before .before .before .before .before .before .before .if2 .left))
 

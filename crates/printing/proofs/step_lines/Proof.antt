@@ -14,11 +14,6 @@ use native.Mathlib.Omega.{arith}
 use borrow.Author.Needs.{needs}
 use Rattle.printing.proofs.step_lines.Statement.{statement}
 use Rattle.printing.proofs.step_lines.Tie as tie
-use Rattle.printing.proofs.step_lines.Reads as reads
-use Rattle.printing.proofs.step_lines.Lts as lts
-use Rattle.lines.proofs.step_line.Reads as step-line-reads
-use Rattle.printing.proofs.end_lines.Reads as end-lines-reads
-use Rattle.printing.proofs.step.Reads as step-reads
 
 abbrev Inv-loop : tie.InvT-loop
 Inv-loop out₀ at h ts cs rows state₀ end₀ i₀ out state end i = Adding out₀ at (stepLines (tableOf h ts cs) state₀ rows) out end (stepLines (tableOf h ts cs) state (drop i rows)) × Accepted (tableOf h ts cs) state
@@ -26,55 +21,42 @@ Inv-loop out₀ at h ts cs rows state₀ end₀ i₀ out state end i = Adding ou
 abbrev μ-loop : tie.MeasureT-loop
 μ-loop out₀ at h ts cs rows state₀ end₀ i₀ out state end i = length rows - i
 
--- src/lib.rt:44:5
 loop-holds : tie.Need-loop-holds Inv-loop μ-loop
 loop-holds c = (adding-none _ _ _, c .before .before .before .before .pre)
 
--- src/lib.rt:45:43
 shared-slice-read-step : tie.Need-shared-slice-read-step Inv-loop μ-loop
 shared-slice-read-step c = search needs
 
--- src/lib.rt:45:13
 step-requires : tie.Need-step-requires Inv-loop μ-loop
 step-requires c κs = tt
 
--- src/lib.rt:47:42
 shared-slice-read-step-line : tie.Need-shared-slice-read-step-line Inv-loop μ-loop
 shared-slice-read-step-line c = search needs
 
--- src/lib.rt:47:9
 step-line-requires : tie.Need-step-line-requires Inv-loop μ-loop
 step-line-requires c κs = tt
 
--- src/lib.rt:49:13
 same-length : tie.Need-same-length Inv-loop μ-loop
 same-length c = kept-length _ _ _ _ _ (c .before .before .before .before .step-line .ensures) ∙ c .before .before .before .before .before .before .before .before .before .before .loop .inv .0 .kept
 
--- src/lib.rt:49:13
 returns : tie.Need-returns Inv-loop μ-loop
 returns c = adding-all _ _ _ _ _ _ (adding-more _ _ _ _ _ _ _ _ [] _ (c .before .before .before .before .before .before .before .before .before .before .loop .inv .0) (lines-stop _ _ (c .before .before .before .before .before .before .before .before .before .before .loop .inv .1) _ _ (c .before .before .before .before .before .before .before .before .before .loop-test .taken) _ (c .before .before .before .before .before .before .before .step .ensures) (not-true _ (c .if1 .taken))) (c .before .before .before .before .step-line .ensures)) refl
 
--- src/lib.rt:52:9
 add-i : tie.Need-add-i Inv-loop μ-loop
 add-i c = let g = c .before .before .before .before .before .before .before .before .before .before .before .before .before .before .before .before .good .1 .1 .1 .1 .1 .1 .0 in record { fits = omega (arith, c .before .before .before .before .before .before .before .before .before .before .loop-test .taken, g) }
 
--- src/lib.rt:44:5
 loop-less : tie.Need-loop-less Inv-loop μ-loop
 loop-less c = omega (arith, c .before .before .before .before .before .before .before .before .before .before .loop-test .taken)
 
--- src/lib.rt:44:5
 loop-again : tie.Need-loop-again Inv-loop μ-loop
 loop-again c = (adding-more _ _ _ _ _ _ _ _ _ _ (c .before .before .before .before .before .before .before .before .before .before .before .loop .inv .0) (lines-more _ _ (c .before .before .before .before .before .before .before .before .before .before .before .loop .inv .1) _ _ (c .before .before .before .before .before .before .before .before .before .before .loop-test .taken) _ (c .before .before .before .before .before .before .before .before .step .ensures) (not-false _ (c .before .if1 .left))) (c .before .before .before .before .before .step-line .ensures), next-accepted _ _ (c .before .before .before .before .before .before .before .before .before .before .before .loop .inv .1) (c .before .before .before .before .before .before .before .before .before .before .before .before .before .before .before .before .args .rows .now) _ (c .before .before .before .before .before .before .before .before .before .before .loop-test .taken) _ (c .before .before .before .before .before .before .before .before .step .ensures) (not-false _ (c .before .if1 .left)))
 
--- src/lib.rt:54:5
 end-lines-requires : tie.Need-end-lines-requires Inv-loop μ-loop
 end-lines-requires c κs = c .before .before .loop .inv .1
 
--- src/lib.rt:37:1
 same-length-2 : tie.Need-same-length-2 Inv-loop μ-loop
 same-length-2 c = kept-length _ _ _ _ _ (c .before .before .end-lines .ensures) ∙ c .before .before .before .before .before .loop .inv .0 .kept
 
--- src/lib.rt:37:1
 returns-2 : tie.Need-returns-2 Inv-loop μ-loop
 returns-2 c = c .before .before .end-lines .ensures ∙ (ap (added _) (sym (lines-end _ _ _ _ (c .before .before .before .before .loop-test .left))) ∙ c .before .before .before .before .before .loop .inv .0 .rest)
 

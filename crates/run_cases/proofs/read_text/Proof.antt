@@ -5,31 +5,22 @@ use lib.Seq.{length-take-le}
 use borrow.Author.Needs.{needs}
 use Rattle.run_cases.proofs.read_text.Statement.{statement}
 use Rattle.run_cases.proofs.read_text.Tie as tie
-use Rattle.run_cases.proofs.read_text.Reads as reads
-use Rattle.run_cases.proofs.read_text.Lts as lts
-use Rattle.io.proofs.read_full.Reads as read-full-reads
 
--- src/main.rt:26:9
 returns : tie.Need-returns
 returns c = search needs
 
--- src/main.rt:28:25
 slice-relend-prefix-read-full : tie.Need-slice-relend-prefix-read-full
 slice-relend-prefix-read-full c = search needs
 
--- src/main.rt:28:25
 slice-aggregate-read-full : tie.Need-slice-aggregate-read-full
 slice-aggregate-read-full c = sym (length-take-le _ _ (c .before .if1 .left))
 
--- src/main.rt:28:5
 read-full-requires : tie.Need-read-full-requires
 read-full-requires c κs = search needs
 
--- src/main.rt:22:1
 same-length : tie.Need-same-length
 same-length c = search needs
 
--- src/main.rt:22:1
 returns-2 : tie.Need-returns-2
 returns-2 c = let e = length-append (c .before .before .read-full .last .1 .0) (drop (c .before .before .before .before .before .before .args .length) (c .before .before .before .before .before .before .args .text .now)) in (omega (arith, e, c .before .before .read-full .ensures .0), sym (length-take-le _ _ (omega (arith, e, c .before .before .read-full .ensures .0))))
 

@@ -5,10 +5,6 @@ use borrow.Author.Tests.{ltb-true}
 use Rattle.laws.proofs.Tests.{and-r}
 use Rattle.run_cases.proofs.try_cases.Statement.{statement}
 use Rattle.run_cases.proofs.try_cases.Tie as tie
-use Rattle.run_cases.proofs.try_cases.Reads as reads
-use Rattle.run_cases.proofs.try_cases.Lts as lts
-use Rattle.run_cases.proofs.next_case.Reads as next-case-reads
-use Rattle.run_cases.proofs.say.Reads as say-reads
 
 abbrev Inv-loop : tie.InvT-loop
 Inv-loop file cases₀ agreed₀ case₀ cases agreed case = (agreed ≤ cases) × (cases ≤ 100000)
@@ -16,55 +12,39 @@ Inv-loop file cases₀ agreed₀ case₀ cases agreed case = (agreed ≤ cases) 
 abbrev μ-loop : tie.MeasureT-loop
 μ-loop file cases₀ agreed₀ case₀ cases agreed case = 100000 - cases
 
--- src/main.rt:59:30
-
--- src/main.rt:59:9
-
--- src/main.rt:62:9
 next-case-requires : tie.Need-next-case-requires Inv-loop μ-loop
 next-case-requires c κs = tt
 
--- src/main.rt:63:5
 loop-holds : tie.Need-loop-holds Inv-loop μ-loop
 loop-holds c = (omega arith, omega arith)
 
--- src/main.rt:64:9
 add-cases : tie.Need-add-cases Inv-loop μ-loop
 add-cases c = let i = c .before .loop .inv in record { fits = omega (arith, i .1) }
 
--- src/main.rt:66:13
 add-agreed : tie.Need-add-agreed Inv-loop μ-loop
 add-agreed c = let i = c .before .before .loop .inv in record { fits = omega (arith, i .0, i .1) }
 
--- src/main.rt:67:13
 next-case-requires-2 : tie.Need-next-case-requires-2 Inv-loop μ-loop
 next-case-requires-2 c κs = tt
 
--- src/main.rt:63:5
 loop-less : tie.Need-loop-less Inv-loop μ-loop
 loop-less c = let l = ltb-true (c .before .before .before .loop .cases) 100000 (and-r (ltb (c .before .before .before .loop .case) 2) _ (c .before .before .loop-test .taken)) in omega (arith, l)
 
--- src/main.rt:63:5
 loop-again : tie.Need-loop-again Inv-loop μ-loop
 loop-again c = let i = c .before .before .before .loop .inv in (omega (arith, i .0), let l = ltb-true (c .before .before .before .loop .cases) 100000 (and-r (ltb (c .before .before .before .loop .case) 2) _ (c .before .before .loop-test .taken)) in omega (arith, l))
 
--- src/main.rt:69:13
 next-case-requires-3 : tie.Need-next-case-requires-3 Inv-loop μ-loop
 next-case-requires-3 c κs = tt
 
--- src/main.rt:63:5
 loop-less-2 : tie.Need-loop-less-2 Inv-loop μ-loop
 loop-less-2 c = let l = ltb-true (c .before .before .before .loop .cases) 100000 (and-r (ltb (c .before .before .before .loop .case) 2) _ (c .before .before .loop-test .taken)) in omega (arith, l)
 
--- src/main.rt:63:5
 loop-again-2 : tie.Need-loop-again-2 Inv-loop μ-loop
 loop-again-2 c = let i = c .before .before .before .loop .inv in (omega (arith, i .0), let l = ltb-true (c .before .before .before .loop .cases) 100000 (and-r (ltb (c .before .before .before .loop .case) 2) _ (c .before .before .loop-test .taken)) in omega (arith, l))
 
--- src/main.rt:72:5
 say-requires : tie.Need-say-requires Inv-loop μ-loop
 say-requires c κs = tt
 
--- src/main.rt:58:1
 returns : tie.Need-returns Inv-loop μ-loop
 returns c = tt
 

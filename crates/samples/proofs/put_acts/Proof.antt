@@ -2,9 +2,6 @@ use Prim.Native.Nat.{_-_}
 use borrow.Author.Needs.{needs}
 use Rattle.samples.proofs.put_acts.Statement.{statement}
 use Rattle.samples.proofs.put_acts.Tie as tie
-use Rattle.samples.proofs.put_acts.Reads as reads
-use Rattle.samples.proofs.put_acts.Lts as lts
-use Rattle.samples.proofs.put_row.Reads as put-row-reads
 
 abbrev Inv-loop : tie.InvT-loop
 Inv-loop rows₀ first end row₀ rows row = Unit {0}
@@ -12,31 +9,24 @@ Inv-loop rows₀ first end row₀ rows row = Unit {0}
 abbrev μ-loop : tie.MeasureT-loop
 μ-loop rows₀ first end row₀ rows row = end - row
 
--- src/lib.rt:15:5
 loop-holds : tie.Need-loop-holds Inv-loop μ-loop
 loop-holds c = search needs
 
--- src/lib.rt:16:36
 add-put-row : tie.Need-add-put-row Inv-loop μ-loop
 add-put-row c = search needs
 
--- src/lib.rt:16:9
 put-row-requires : tie.Need-put-row-requires Inv-loop μ-loop
 put-row-requires c κs = search needs
 
--- src/lib.rt:17:9
 add-row : tie.Need-add-row Inv-loop μ-loop
 add-row c = search needs
 
--- src/lib.rt:15:5
 loop-less : tie.Need-loop-less Inv-loop μ-loop
 loop-less c = search needs
 
--- src/lib.rt:15:5
 loop-again : tie.Need-loop-again Inv-loop μ-loop
 loop-again c = search needs
 
--- src/lib.rt:13:1
 returns : tie.Need-returns Inv-loop μ-loop
 returns c = search needs
 

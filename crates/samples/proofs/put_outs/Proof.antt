@@ -2,9 +2,6 @@ use Prim.Native.Nat.{_-_}
 use borrow.Author.Needs.{needs}
 use Rattle.samples.proofs.put_outs.Statement.{statement}
 use Rattle.samples.proofs.put_outs.Tie as tie
-use Rattle.samples.proofs.put_outs.Reads as reads
-use Rattle.samples.proofs.put_outs.Lts as lts
-use Rattle.samples.proofs.put_row.Reads as put-row-reads
 
 abbrev Inv-loop : tie.InvT-loop
 Inv-loop rows₀ first count link₀ row₀ rows link row = Unit {0}
@@ -12,39 +9,30 @@ Inv-loop rows₀ first count link₀ row₀ rows link row = Unit {0}
 abbrev μ-loop : tie.MeasureT-loop
 μ-loop rows₀ first count link₀ row₀ rows link row = count - link
 
--- src/lib.rt:25:5
 loop-holds : tie.Need-loop-holds Inv-loop μ-loop
 loop-holds c = search needs
 
--- src/lib.rt:27:13
 returns : tie.Need-returns Inv-loop μ-loop
 returns c = search needs
 
--- src/lib.rt:29:40
 add-put-row : tie.Need-add-put-row Inv-loop μ-loop
 add-put-row c = search needs
 
--- src/lib.rt:29:9
 put-row-requires : tie.Need-put-row-requires Inv-loop μ-loop
 put-row-requires c κs = search needs
 
--- src/lib.rt:30:9
 add-row : tie.Need-add-row Inv-loop μ-loop
 add-row c = search needs
 
--- src/lib.rt:31:9
 add-link : tie.Need-add-link Inv-loop μ-loop
 add-link c = search needs
 
--- src/lib.rt:25:5
 loop-less : tie.Need-loop-less Inv-loop μ-loop
 loop-less c = search needs
 
--- src/lib.rt:25:5
 loop-again : tie.Need-loop-again Inv-loop μ-loop
 loop-again c = search needs
 
--- src/lib.rt:22:1
 returns-2 : tie.Need-returns-2 Inv-loop μ-loop
 returns-2 c = search needs
 

@@ -4,23 +4,16 @@ use native.Mathlib.Omega.{arith}
 use borrow.Author.Needs.{needs}
 use Rattle.sheet_cases.proofs.read_first.Statement.{statement}
 use Rattle.sheet_cases.proofs.read_first.Tie as tie
-use Rattle.sheet_cases.proofs.read_first.Reads as reads
-use Rattle.sheet_cases.proofs.read_first.Lts as lts
-use Rattle.sheet_cases.proofs.read.Reads as read-reads
 
--- src/main.rt:71:20
 slice-aggregate-read : tie.Need-slice-aggregate-read
 slice-aggregate-read c = sym (length-take-le _ _ (omega arith))
 
--- src/main.rt:71:9
 read-requires : tie.Need-read-requires
 read-requires c κs = search needs
 
--- src/main.rt:69:1
 returns : tie.Need-returns
 returns c = search needs
 
--- src/main.rt:69:1
 returns-2 : tie.Need-returns-2
 returns-2 c = search needs
 

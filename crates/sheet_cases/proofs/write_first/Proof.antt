@@ -4,39 +4,28 @@ use native.Mathlib.Omega.{arith}
 use borrow.Author.Needs.{needs}
 use Rattle.sheet_cases.proofs.write_first.Statement.{statement}
 use Rattle.sheet_cases.proofs.write_first.Tie as tie
-use Rattle.sheet_cases.proofs.write_first.Reads as reads
-use Rattle.sheet_cases.proofs.write_first.Lts as lts
-use Rattle.codec.proofs.write.Reads as write-reads
 
--- src/main.rt:91:40
 slice-relend-prefix-write : tie.Need-slice-relend-prefix-write
 slice-relend-prefix-write c = search needs
 
--- src/main.rt:91:40
 slice-aggregate-write : tie.Need-slice-aggregate-write
 slice-aggregate-write c = sym (length-take-le _ _ (omega arith))
 
--- src/main.rt:91:9
 write-requires : tie.Need-write-requires
 write-requires c κs = search needs
 
--- src/main.rt:91:9
 same-length : tie.Need-same-length
 same-length c = search needs
 
--- src/main.rt:91:9
 returns : tie.Need-returns
 returns c = search needs
 
--- src/main.rt:93:5
 write-requires-2 : tie.Need-write-requires-2
 write-requires-2 c κs = search needs
 
--- src/main.rt:89:1
 same-length-2 : tie.Need-same-length-2
 same-length-2 c = search needs
 
--- src/main.rt:89:1
 returns-2 : tie.Need-returns-2
 returns-2 c = search needs
 

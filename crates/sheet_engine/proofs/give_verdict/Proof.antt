@@ -2,36 +2,25 @@ use Rattle.sheet_engine.proofs.Calls.{judged, verdict-refused, pass-giv
 use borrow.Author.Needs.{needs}
 use Rattle.sheet_engine.proofs.give_verdict.Statement.{statement}
 use Rattle.sheet_engine.proofs.give_verdict.Tie as tie
-use Rattle.sheet_engine.proofs.give_verdict.Reads as reads
-use Rattle.sheet_engine.proofs.give_verdict.Lts as lts
-use Rattle.judge.proofs.judge.Reads as judge-reads
-use Rattle.verdict.proofs.give.Reads as give-reads
 
--- src/lib.rt:78:9
 judge-requires : tie.Need-judge-requires
 judge-requires c κs = search needs
 
--- src/lib.rt:82:9
 returns : tie.Need-returns
 returns c = verdict-refused _ _ (c .before .judge .ensures) (c .if1 .taken)
 
--- src/lib.rt:84:11
 give-requires : tie.Need-give-requires
 give-requires c κs = judged _ _ (c .before .judge .ensures) (c .if1 .left)
 
--- src/lib.rt:85:26
 enum-told : tie.Need-enum-told
 enum-told c = search needs
 
--- src/lib.rt:86:25
 enum-known-row : tie.Need-enum-known-row
 enum-known-row c = search needs
 
--- src/lib.rt:75:1
 returns-2 : tie.Need-returns-2
 returns-2 c = pass-given _ _ (c .before .before .before .before .judge .ensures) (c .before .before .before .if1 .left) _ (c .before .before .give .ensures) (c .enum-told .given .1)
 
--- src/lib.rt:75:1
 returns-3 : tie.Need-returns-3
 returns-3 c = fail-given _ _ (c .before .before .before .before .before .judge .ensures) (c .before .before .before .before .if1 .left) _ (c .before .before .before .give .ensures) _ _ _ (c .before .row .given .1)
 

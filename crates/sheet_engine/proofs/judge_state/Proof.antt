@@ -5,24 +5,16 @@ use Rattle.sheet_engine.proofs.Steps.{table-first, state-then}
 use borrow.Author.Needs.{needs}
 use Rattle.sheet_engine.proofs.judge_state.Statement.{statement}
 use Rattle.sheet_engine.proofs.judge_state.Tie as tie
-use Rattle.sheet_engine.proofs.judge_state.Reads as reads
-use Rattle.sheet_engine.proofs.judge_state.Lts as lts
-use Rattle.fitting.proofs.fit.Reads as fit-reads
-use Rattle.judge.proofs.judge.Reads as judge-reads
 
--- src/lib.rt:82:9
 judge-requires : tie.Need-judge-requires
 judge-requires c κs = search needs
 
--- src/lib.rt:86:9
 returns : tie.Need-returns
 returns c = table-first _ (c .before .before .before .before .args .s) _ (c .before .judge .ensures) (c .if1 .taken)
 
--- src/lib.rt:88:5
 fit-requires : tie.Need-fit-requires
 fit-requires c κs = let w = well-formed _ (meets _ (ap (λ (r : Refusal). r .number) (sym (c .before .judge .ensures)) ∙ c .if1 .left)) in (w .few-terms, (w .terms-lent, w .tree))
 
--- src/lib.rt:79:1
 returns-2 : tie.Need-returns-2
 returns-2 c = state-then _ (c .before .before .before .before .before .args .s) _ (c .before .before .judge .ensures) (c .before .if1 .left) _ (c .fit .ensures)
 

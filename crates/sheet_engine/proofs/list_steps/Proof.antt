@@ -2,36 +2,25 @@ use Rattle.sheet_engine.proofs.Steps.{list-refused, list-short, list-gi
 use borrow.Author.Needs.{needs}
 use Rattle.sheet_engine.proofs.list_steps.Statement.{statement}
 use Rattle.sheet_engine.proofs.list_steps.Tie as tie
-use Rattle.sheet_engine.proofs.list_steps.Reads as reads
-use Rattle.sheet_engine.proofs.list_steps.Lts as lts
-use Rattle.engine.proofs.list.Reads as list-reads
-use Rattle.sheet_engine.proofs.judge_state.Reads as judge-state-reads
 
--- src/lib.rt:95:9
 judge-state-requires : tie.Need-judge-state-requires
 judge-state-requires c κs = search needs
 
--- src/lib.rt:99:9
 returns : tie.Need-returns
 returns c = list-refused _ _ _ (c .before .judge-state .ensures) _ (c .if1 .taken)
 
--- src/lib.rt:102:9
 list-requires : tie.Need-list-requires
 list-requires c κs = call-formed _ (c .before .before .before .before .before .before .args .s) _ (c .before .before .judge-state .ensures) (c .before .if1 .left)
 
--- src/lib.rt:104:9
 same-length : tie.Need-same-length
 same-length c = search needs
 
--- src/lib.rt:104:9
 returns-2 : tie.Need-returns-2
 returns-2 c = list-short _ _ _ (c .before .before .before .before .before .before .judge-state .ensures) _ _ _ (c .before .before .before .before .before .if1 .left) (c .before .before .before .list .ensures .0) (c .before .before .before .list .ensures .1) (c .if2 .taken)
 
--- src/lib.rt:92:1
 same-length-2 : tie.Need-same-length-2
 same-length-2 c = search needs
 
--- src/lib.rt:92:1
 returns-3 : tie.Need-returns-3
 returns-3 c = list-given _ _ _ (c .before .before .before .before .before .before .judge-state .ensures) _ _ _ (c .before .before .before .before .before .if1 .left) (c .before .before .before .list .ensures .0) (c .before .before .before .list .ensures .1) (c .if2 .left)
 

@@ -4,41 +4,28 @@ use Rattle.sheet_engine.proofs.Calls.{start-refused, start-bad-mode, st
 use borrow.Author.Needs.{needs}
 use Rattle.sheet_engine.proofs.start.Statement.{statement}
 use Rattle.sheet_engine.proofs.start.Tie as tie
-use Rattle.sheet_engine.proofs.start.Reads as reads
-use Rattle.sheet_engine.proofs.start.Lts as lts
-use Rattle.fitting.proofs.mode_ok.Reads as mode-ok-reads
-use Rattle.judge.proofs.judge.Reads as judge-reads
-use Rattle.state.proofs.fresh.Reads as fresh-reads
 
--- src/lib.rt:97:9
 judge-requires : tie.Need-judge-requires
 judge-requires c κs = search needs
 
--- src/lib.rt:104:20
 fresh-requires : tie.Need-fresh-requires
 fresh-requires c κs = search needs
 
--- src/lib.rt:101:9
 returns : tie.Need-returns
 returns c = start-refused _ _ (c .before .before .judge .ensures) _ (c .fresh .result) (c .before .if1 .taken) (c .fresh .ensures .0)
 
--- src/lib.rt:107:9
 mode-ok-requires : tie.Need-mode-ok-requires
 mode-ok-requires c κs = search needs
 
--- src/lib.rt:111:20
 fresh-requires-2 : tie.Need-fresh-requires-2
 fresh-requires-2 c κs = search needs
 
--- src/lib.rt:108:9
 returns-2 : tie.Need-returns-2
 returns-2 c = start-bad-mode _ _ (c .before .before .before .before .judge .ensures) _ (c .fresh2 .result) (c .before .before .before .if1 .left) (leb-false _ 1 (sym (c .before .before .mode-ok .ensures) ∙ not-true _ (c .before .if2 .taken))) (c .fresh2 .ensures .0)
 
--- src/lib.rt:117:16
 fresh-requires-3 : tie.Need-fresh-requires-3
 fresh-requires-3 c κs = search needs
 
--- src/lib.rt:94:1
 returns-3 : tie.Need-returns-3
 returns-3 c = start-fresh _ _ (c .before .before .before .before .judge .ensures) _ (c .fresh3 .result) (c .before .before .before .if1 .left) (leb-true _ 1 (sym (c .before .before .mode-ok .ensures) ∙ not-false _ (c .before .if2 .left))) (c .fresh3 .ensures .0)
 

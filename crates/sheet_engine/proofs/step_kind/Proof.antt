@@ -2,24 +2,16 @@ use Rattle.sheet_engine.proofs.Steps.{kind-refused, kind-given, call-fo
 use borrow.Author.Needs.{needs}
 use Rattle.sheet_engine.proofs.step_kind.Statement.{statement}
 use Rattle.sheet_engine.proofs.step_kind.Tie as tie
-use Rattle.sheet_engine.proofs.step_kind.Reads as reads
-use Rattle.sheet_engine.proofs.step_kind.Lts as lts
-use Rattle.engine.proofs.kind.Reads as kind-reads
-use Rattle.sheet_engine.proofs.judge_state.Reads as judge-state-reads
 
--- src/lib.rt:113:9
 judge-state-requires : tie.Need-judge-state-requires
 judge-state-requires c κs = search needs
 
--- src/lib.rt:117:9
 returns : tie.Need-returns
 returns c = kind-refused _ _ _ (c .before .judge-state .ensures) _ (c .if1 .taken)
 
--- src/lib.rt:119:5
 kind-requires : tie.Need-kind-requires
 kind-requires c κs = call-formed _ (c .before .before .before .before .args .s) _ (c .before .judge-state .ensures) (c .if1 .left)
 
--- src/lib.rt:110:1
 returns-2 : tie.Need-returns-2
 returns-2 c = kind-given _ _ _ (c .before .before .judge-state .ensures) _ _ (c .before .if1 .left) (c .kind .ensures)
 

@@ -11,11 +11,6 @@ use Rattle.verdict.proofs.Joins.{none-sound, some-unsound, verdict-fail
 use borrow.Author.Needs.{needs}
 use Rattle.verdict.proofs.give.Statement.{statement}
 use Rattle.verdict.proofs.give.Tie as tie
-use Rattle.verdict.proofs.give.Reads as reads
-use Rattle.verdict.proofs.give.Lts as lts
-use Rattle.reach.proofs.masks.Reads as masks-reads
-use Rattle.verdict.proofs.mark.Reads as mark-reads
-use Rattle.verdict.proofs.of_row.Reads as of-row-reads
 
 abbrev Inv-loop : tie.InvT-loop
 Inv-loop h ts cs masks n seen₀ j₀ seen j = Filled 0 (maskAt cs) (h .k) masks × (Tried (tableOf h ts cs) seen × Searched (sound (tableOf h ts cs)) n j)
@@ -23,48 +18,37 @@ Inv-loop h ts cs masks n seen₀ j₀ seen j = Filled 0 (maskAt cs) (h .k) masks
 abbrev μ-loop : tie.MeasureT-loop
 μ-loop h ts cs masks n seen₀ j₀ seen j = n - j
 
--- src/lib.rt:69:17
 masks-requires : tie.Need-masks-requires Inv-loop μ-loop
 masks-requires c κs = omega arith
 
--- src/lib.rt:73:5
 loop-holds : tie.Need-loop-holds Inv-loop μ-loop
 loop-holds c = (c .masks .ensures, (tried-none _, searched-none _ _))
 
--- src/lib.rt:74:15
 of-row-requires : tie.Need-of-row-requires Inv-loop μ-loop
 of-row-requires c κs = let l = c .before .before .before .loop in (c .before .before .before .before .before .before .before .pre, (l .inv .0, (c .before .before .loop-test .taken, l .inv .1 .0)))
 
--- src/lib.rt:75:27
 enum-known-number : tie.Need-enum-known-number Inv-loop μ-loop
 enum-known-number c = search needs
 
--- src/lib.rt:76:17
 returns : tie.Need-returns Inv-loop μ-loop
 unfolding failing
 returns c = let l = c .before .before .before .before .before .before .before .loop in let f = some-unsound _ (l .j) _ _ (sym (c .before .before .before .of-row .ensures) ∙ c .before .number .given .1) in f .1 ∙ verdict-fail _ (l .j) (c .before .before .before .before .before .before .loop-test .taken) (searched-stop _ _ _ (l .inv .1 .1) (c .before .before .before .before .before .before .loop-test .taken) (f .0))
 
--- src/lib.rt:83:22
 enum-told : tie.Need-enum-told Inv-loop μ-loop
 enum-told c = search needs
 
--- src/lib.rt:83:17
 mark-requires : tie.Need-mark-requires Inv-loop μ-loop
 mark-requires c κs = omega arith
 
--- src/lib.rt:84:17
 add-j : tie.Need-add-j Inv-loop μ-loop
 add-j c = omega arith
 
--- src/lib.rt:73:5
 loop-less : tie.Need-loop-less Inv-loop μ-loop
 loop-less c = omega arith
 
--- src/lib.rt:73:5
 loop-again : tie.Need-loop-again Inv-loop μ-loop
 loop-again c = let l = c .before .before .before .before .before .before .before .before .loop in let f = none-sound _ (l .j) (sym (c .before .before .before .before .of-row .ensures) ∙ c .before .before .enum-told .given .1) in (l .inv .0, (rw (c .mark .ensures) (tried-mark _ _ (l .j) (l .inv .1 .0) f), searched-more _ _ _ (l .inv .1 .1) (c .before .before .before .before .before .before .before .loop-test .taken) f))
 
--- src/lib.rt:65:1
 returns-2 : tie.Need-returns-2 Inv-loop μ-loop
 unfolding failing
 returns-2 c = let l = c .before .loop in verdict-pass _ (l .j) (c .loop-test .left) (searched-end _ _ _ (l .inv .1 .1) (c .loop-test .left))

@@ -4,42 +4,31 @@ use native.Mathlib.Omega.{arith}
 use borrow.Author.Needs.{needs}
 use Rattle.verdict.proofs.mark.Statement.{statement}
 use Rattle.verdict.proofs.mark.Tie as tie
-use Rattle.verdict.proofs.mark.Reads as reads
-use Rattle.verdict.proofs.mark.Lts as lts
 
--- src/lib.rt:45:19
 mul-kind : tie.Need-mul-kind
 mul-kind c = search needs
 
--- src/lib.rt:45:16
 shared-slice-read-kind : tie.Need-shared-slice-read-kind
 shared-slice-read-kind c = search needs
 
--- src/lib.rt:46:16
 mul-c : tie.Need-mul-c
 mul-c c = search needs
 
--- src/lib.rt:46:16
 add-c : tie.Need-add-c
 add-c c = search needs
 
--- src/lib.rt:46:13
 shared-slice-read-c : tie.Need-shared-slice-read-c
 shared-slice-read-c c = search needs
 
--- src/lib.rt:48:14
 cast-seen : tie.Need-cast-seen
 cast-seen c = omega (arith, c .before .shared-slice-known2 .given (c .before .before .before .args .j * 4 + 1))
 
--- src/lib.rt:48:9
 element-write-seen : tie.Need-element-write-seen
 element-write-seen c = omega (arith, c .before .shared-slice-known2 .given (c .before .before .before .args .j * 4 + 1))
 
--- src/lib.rt:41:1
 returns : tie.Need-returns
 returns c = mark-join _ (c .before .before .before .args .j) _ (c .if1 .taken)
 
--- src/lib.rt:41:1
 returns-2 : tie.Need-returns-2
 returns-2 c = mark-other _ (c .before .before .before .args .j) _ (c .if1 .left)
 

@@ -3,19 +3,13 @@ use native.Mathlib.Omega.{arith}
 use borrow.Author.Needs.{needs}
 use Rattle.words.proofs.binary.Statement.{statement}
 use Rattle.words.proofs.binary.Tie as tie
-use Rattle.words.proofs.binary.Reads as reads
-use Rattle.words.proofs.binary.Lts as lts
-use Rattle.words.proofs.pattern.Reads as pattern-reads
 
--- src/lib.rt:54:9
 pattern-requires : tie.Need-pattern-requires
 pattern-requires c κs = search needs
 
--- src/lib.rt:56:9
 returns : tie.Need-returns
 returns c = rw (c .if1 .taken) (c .before .pattern .ensures)
 
--- src/lib.rt:50:1
 returns-2 : tie.Need-returns-2
 returns-2 c = word-not _ _ _ _ (omega arith) (c .before .before .pre .0) (c .if1 .left) (c .before .pattern .ensures)
 

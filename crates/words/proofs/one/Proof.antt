@@ -6,14 +6,10 @@ use native.Mathlib.Omega.{arith}
 use borrow.Author.Needs.{needs}
 use Rattle.words.proofs.one.Statement.{statement}
 use Rattle.words.proofs.one.Tie as tie
-use Rattle.words.proofs.one.Reads as reads
-use Rattle.words.proofs.one.Lts as lts
 
--- src/lib.rt:33:5
 shl-result : tie.Need-shl-result
 shl-result c = search needs
 
--- src/lib.rt:29:1
 returns : tie.Need-returns
 returns c = shl-exact 1 (c .args .j) 64 (omega arith) (omega arith) ∙ one-mul (2 ^ c .args .j)
 

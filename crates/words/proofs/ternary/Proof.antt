@@ -4,10 +4,6 @@ use Rattle.words.proofs.Patterns.{Laned, laned-none, laned-hit, laned-m
 use native.Mathlib.Omega.{arith}
 use Rattle.words.proofs.ternary.Statement.{statement}
 use Rattle.words.proofs.ternary.Tie as tie
-use Rattle.words.proofs.ternary.Reads as reads
-use Rattle.words.proofs.ternary.Lts as lts
-use Rattle.words.proofs.one.Reads as one-reads
-use Rattle.words.proofs.three_to.Reads as three-to-reads
 
 abbrev Inv-loop : tie.InvT-loop
 Inv-loop d i x power word₀ j₀ word j = (power ≡ 3 ^ i) × ((j ≤ 64) × Laned (digitAt 3 d i x) j word)
@@ -15,53 +11,41 @@ Inv-loop d i x power word₀ j₀ word j = (power ≡ 3 ^ i) × ((j ≤ 64) × L
 abbrev μ-loop : tie.MeasureT-loop
 μ-loop d i x power word₀ j₀ word j = 64 - j
 
--- src/lib.rt:65:9
 three-to-requires : tie.Need-three-to-requires Inv-loop μ-loop
 three-to-requires c κs = omega arith
 
--- src/lib.rt:68:5
 loop-holds : tie.Need-loop-holds Inv-loop μ-loop
 loop-holds c = (c .three-to .ensures, (omega arith, laned-none _))
 
--- src/lib.rt:69:14
 add-if1 : tie.Need-add-if1 Inv-loop μ-loop
 add-if1 c = omega arith
 
--- src/lib.rt:69:13
 div-if1 : tie.Need-div-if1 Inv-loop μ-loop
 div-if1 c = omega (arith, c .before .loop .inv .0, three-positive (c .before .before .before .args .i))
 
--- src/lib.rt:70:27
 one-requires : tie.Need-one-requires Inv-loop μ-loop
 one-requires c κs = omega arith
 
--- src/lib.rt:71:13
 add-j : tie.Need-add-j Inv-loop μ-loop
 add-j c = omega arith
 
--- src/lib.rt:68:5
 loop-less : tie.Need-loop-less Inv-loop μ-loop
 loop-less c = omega arith
 
--- src/lib.rt:68:5
 loop-again : tie.Need-loop-again Inv-loop μ-loop
 loop-again c = let l = c .before .before .before .loop in
     (l .inv .0, (omega arith, rw (c .one .ensures) (laned-hit _ (l .j) (l .word) (l .inv .1 .1) (digit-hit _ _ _ _ (l .j) _ (l .inv .0) (c .before .if1 .taken)))))
 
--- src/lib.rt:73:13
 add-j-2 : tie.Need-add-j-2 Inv-loop μ-loop
 add-j-2 c = omega arith
 
--- src/lib.rt:68:5
 loop-less-2 : tie.Need-loop-less-2 Inv-loop μ-loop
 loop-less-2 c = omega arith
 
--- src/lib.rt:68:5
 loop-again-2 : tie.Need-loop-again-2 Inv-loop μ-loop
 loop-again-2 c = let l = c .before .before .loop in
     (l .inv .0, (omega arith, laned-miss _ (l .j) (l .word) (l .inv .1 .1) (digit-miss _ _ _ _ (l .j) _ (l .inv .0) (c .if1 .left))))
 
--- src/lib.rt:61:1
 returns : tie.Need-returns Inv-loop μ-loop
 returns c = let l = c .before .loop in
     laned-end _ _ _ _ (l .j) (l .word) (c .loop-test .left) (l .inv .1 .1)

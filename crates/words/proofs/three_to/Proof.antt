@@ -3,18 +3,13 @@ use native.Mathlib.Omega.{arith}
 use borrow.Author.Needs.{needs}
 use Rattle.words.proofs.three_to.Statement.{statement}
 use Rattle.words.proofs.three_to.Tie as tie
-use Rattle.words.proofs.three_to.Reads as reads
-use Rattle.words.proofs.three_to.Lts as lts
 
--- src/lib.rt:26:5
 mul-result : tie.Need-mul-result
 mul-result c = search needs
 
--- src/lib.rt:26:5
 array-read-result : tie.Need-array-read-result
 array-read-result c = search needs
 
--- src/lib.rt:22:1
 returns : tie.Need-returns
 returns c = power-at _ (omega arith)
 
