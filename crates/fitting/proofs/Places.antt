@@ -3,7 +3,7 @@ use Prim.Native.Nat.{ℕ, _+_, _-_, _<_, _≤_}
 use mathlib.Core.Path.{_≡_, refl, sym, _∙_, ap}
 use mathlib.Core.Bool.{Bool, true, _&&_, not, cond}
 use mathlib.Core.List.{List}
-use mathlib.Core.Logic.{by-cases}
+use mathlib.Core.Logic.{by-cases, _↔_}
 use native.Mathlib.Omega.{arith}
 use native.Mathlib.Decide.{ℕ-discrete}
 use lib.Dec.{eqb, ltb, leb}
@@ -33,15 +33,26 @@ module _ (ts : List ℕ) (n : ℕ) (m : Mode) (μ : Marks) where
   unfolding Scanned placeOf markOk
   rest-read s = sym (s ∙ lowest-same (markOk ts n m μ) (λ k. eqb (μ k) 0) n (256 - n) (λ k low high. rw (le-ltb k n low) refl))
 
--- the rows from n to a row have no mark, or one of them has
-abbrev pub Unmarked : List ℕ → ℕ → ℕ → Bool → Type 0
-Unmarked marks n row none = none ≡ true → (k : ℕ) → n ≤ k → k < row → eqb (getD marks k 0) 0 ≡ true
+-- the rows from n to a row have no mark: exactly then it is told
+pub record Unmarked (marks : List ℕ) (n row : ℕ) (none : Bool) : Type 0 where
+  pub since : n ≤ row
+  pub within : (k : ℕ) → n ≤ k → k < row → k < 256
+  pub told : none ≡ true → (k : ℕ) → n ≤ k → k < row → eqb (getD marks k 0) 0 ≡ true
+  pub found : ((k : ℕ) → n ≤ k → k < row → eqb (getD marks k 0) 0 ≡ true) → none ≡ true
 
-pub unmarked-more : (marks : List ℕ) (n row : ℕ) (none : Bool) → Unmarked marks n row none → Unmarked marks n (row + 1) (none && eqb (getD marks row 0) 0)
-unmarked-more marks n row none f e k low high =
-    by-cases (ℕ-discrete k row)
-    (λ z. rw z (and-r none _ e))
-    (λ z. f (and-l none _ e) k low (omega arith))
+pub unmarked-none : (marks : List ℕ) (n : ℕ) → Unmarked marks n n true
+unmarked-none marks n = record { since = omega arith; within = (λ k low high. absurd (omega arith)); told = (λ e k low high. absurd (omega arith)); found = (λ f. refl) }
+
+pub unmarked-more : (marks : List ℕ) (n row : ℕ) (none : Bool) → row < 256 → Unmarked marks n row none → Unmarked marks n (row + 1) (none && eqb (getD marks row 0) 0)
+unmarked-more marks n row none h u = record {
+  since = omega (arith, u .since);
+  within = (λ k low high. omega arith);
+  told = (λ e k low high. by-cases (ℕ-discrete k row) (λ z. rw z (and-r none _ e)) (λ z. u .told (and-l none _ e) k low (omega arith)));
+  found = (λ f. rw (u .found (λ k low high. f k low (omega arith)), f row (u .since) (omega arith)) refl);
+}
+
+pub unmarked-end : (marks : List ℕ) (n row : ℕ) (none : Bool) → Unmarked marks n row none → 256 ≤ row → (none ≡ true) ↔ Holds (restFit n (λ k. getD marks k 0))
+unmarked-end marks n row none u h = ((λ e k low high. u .told e k low (omega arith)), λ f. u .found (λ k low high. f k low (u .within k low high)))
 
 pub rest-all : (n : ℕ) (μ : Marks) → n ≤ 256 → Holds (restFit n μ) → 256 ≡ placeOf (restFit n μ)
 unfolding placeOf

@@ -1,5 +1,6 @@
 // Does a state fit a table? Each check has a function of its own; the chain of the last five is the order of the checks.
 ghost use mathlib.Core.Path.{_≡_};
+ghost use mathlib.Core.Logic.{_↔_};
 ghost use Prim.Native.Nat.{_+_, _*_, _<_, _≤_};
 ghost use mathlib.Core.Bool.{true, cond, not};
 ghost use lib.Dec.{eqb, ltb, leb};
@@ -111,7 +112,7 @@ fn clear_ok(live: u8, ts: &[u8], row: usize, mark: u8, links: &[u8; 64]) -> bool
 
 // No row from n on has a mark. The loop has one end, so that it can take many marks at once.
 fn unmarked_from(marks: &[u8; 256], n: usize) -> bool
-    ensures { λ r. ⌜ (r ≡ true → Holds (restFit n (λ k. getD (now (marks .entry)) k 0))) ⌝ }
+    ensures { λ r. ⌜ (r ≡ true) ↔ Holds (restFit n (λ k. getD (now (marks .entry)) k 0)) ⌝ }
 {
     let mut none = true;
     let mut row = n;

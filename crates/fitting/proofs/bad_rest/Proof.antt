@@ -18,7 +18,7 @@ unmarked-from-requires : tie.Need-unmarked-from-requires Inv-loop μ-loop
 unmarked-from-requires c κs = omega arith
 
 returns : tie.Need-returns Inv-loop μ-loop
-returns c = rest-all _ (λ k. getD (c .before .before .args .marks .now) k 0) (c .before .before .pre) (c .before .unmarked-from .ensures (c .if1 .taken))
+returns c = rest-all _ (λ k. getD (c .before .before .args .marks .now) k 0) (c .before .before .pre) (c .before .unmarked-from .ensures .0 (c .if1 .taken))
 
 loop-holds : tie.Need-loop-holds Inv-loop μ-loop
 loop-holds c = scanned-none _

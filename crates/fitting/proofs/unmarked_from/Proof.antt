@@ -1,6 +1,6 @@
 use Prim.Native.Nat.{_-_}
 use native.Mathlib.Omega.{arith}
-use Rattle.fitting.proofs.Places.{Unmarked, unmarked-more}
+use Rattle.fitting.proofs.Places.{Unmarked, unmarked-none, unmarked-more, unmarked-end}
 use Rattle.fitting.proofs.unmarked_from.Statement.{statement}
 use Rattle.fitting.proofs.unmarked_from.Tie as tie
 
@@ -11,7 +11,7 @@ abbrev μ-loop : tie.MeasureT-loop
 μ-loop marks n none₀ row₀ none row = 256 - row
 
 loop-holds : tie.Need-loop-holds Inv-loop μ-loop
-loop-holds c e k low high = absurd (omega arith)
+loop-holds c = unmarked-none _ _
 
 element-copy-out-none : tie.Need-element-copy-out-none Inv-loop μ-loop
 element-copy-out-none c = omega arith
@@ -23,10 +23,10 @@ loop-less : tie.Need-loop-less Inv-loop μ-loop
 loop-less c = omega arith
 
 loop-again : tie.Need-loop-again Inv-loop μ-loop
-loop-again c = unmarked-more (c .before .before .before .args .marks .now) _ _ _ (c .before .before .loop .inv)
+loop-again c = unmarked-more (c .before .before .before .args .marks .now) _ _ _ (c .before .loop-test .taken) (c .before .before .loop .inv)
 
 returns : tie.Need-returns Inv-loop μ-loop
-returns c e k low high = c .before .loop .inv e k low (omega arith)
+returns c = unmarked-end _ _ _ _ (c .before .loop .inv) (c .loop-test .left)
 
 pub unmarked-from-spec : {M : Type 1} → statement M
 unmarked-from-spec =
