@@ -67,6 +67,10 @@ module _ (ts : List ℕ) (n : ℕ) (tree : Tree (rowAt ts) n) (μ : Marks) where
       (λ q. (p, record { in-sheet = hp; side = s; child = suc k; at-side = c; holds = root-in (rowAt ts) n (tree .kids) (suc k) h }, q))
       (or-true (sym (held-child p (suc k) s hp c) ∙ e))
 
+  -- a row is held exactly if it stands below a waiting ACT, OUT or JOIN
+  pub held-said : (k : ℕ) → k < n → (held ts μ k ≡ true) ↔ ((i : ℕ) × Below ts n i k × (waitingStep (rowAt ts i) (μ i) ≡ true))
+  held-said k h = (held-below (suc k) k (omega arith) h, λ (i, b, e). below-held i k b e)
+
   pub waits-said : Holds (waitsFit ts n μ) ↔ ((i k : ℕ) → Below ts n i k → waitingStep (rowAt ts i) (μ i) ≡ true → waiting (rowAt ts k) (μ k) ≡ true)
   unfolding waitOk
   waits-said = (

@@ -44,9 +44,9 @@ use Rattle.state.specs.declared.State.{State}
 use Rattle.state.specs.declared.StepKind.the-variants.{Clean}
 use Rattle.state.specs.State.{sideMark}
 use Rattle.moves.specs.Steps.{marksOf, linksOf, Sized, leftIn, kindIn, hasStep, listedOf, steppedOf, isWaitingPick}
-use Rattle.moves.specs.Fits.{waitsFit, clearFit}
+use Rattle.moves.specs.Fits.{held, waitsFit, clearFit}
 use Rattle.moves.specs.Above.{Below, PickAbove}
-use Rattle.moves.proofs.Below.{waits-said}
+use Rattle.moves.proofs.Below.{held-said, waits-said}
 use Rattle.moves.proofs.Clear.{clear-said}
 use Rattle.moves.proofs.Allowed.{listed-allowed as steps-allowed, allowed-listed as allowed-steps}
 use Rattle.moves.proofs.Decided.{row-marked, pick-decided}
@@ -176,6 +176,10 @@ pub fits-says : (t : Table) → refusalOf t .number ≡ 0 → (s : State) → (H
 fits-says t e s =
     let tree = well-formed t (meets t e) .tree in
     (waits-said (t .terms) (t .n) tree (marksOf s), clear-said (t .terms) (t .n) (tree .kids) (tree .once) (marksOf s) (tree .some-row) (s .links))
+
+-- (c), its place: "lowest row that should wait and does not". A row should wait exactly if it stands below a waiting ACT, OUT or JOIN.
+pub should-wait : (t : Table) → refusalOf t .number ≡ 0 → (s : State) (k : ℕ) → k < t .n → (held (t .terms) (marksOf s) k ≡ true) ↔ ((i : ℕ) × Below (t .terms) (t .n) i k × (waitingStep (rowAt (t .terms) i) (marksOf s i) ≡ true))
+should-wait t e s = held-said (t .terms) (t .n) (well-formed t (meets t e) .tree) (marksOf s)
 
 -- "The list of steps is in rising row order."
 pub listed-rises : (t : Table) (s : State) → Accepted t s → Rising (listedRows t s)
