@@ -5,13 +5,15 @@ use mathlib.Core.List.{List}
 use mathlib.Core.Logic.{⊎-elim, _↔_}
 use Prim.Native.Nat.{ℕ, _<_}
 use native.Mathlib.Omega.{arith}
+use lib.Dec.{eqb}
 use lib.ListN.{getD}
-use borrow.Author.Tests.{eqb-true, eq-eqb}
+use borrow.Author.Tests.{eqb-true, eq-eqb, ne-eqb, not-false}
 use Rattle.laws.specs.Tests.{or}
 use Rattle.laws.specs.Checks.{Holds}
-use Rattle.laws.proofs.Tests.{self, or-true, or-l, or-r, implied, implies}
-use Rattle.calculus.specs.Process.{Process, Prefix, act, out, join, Branching}
+use Rattle.laws.proofs.Tests.{self, or-true, or-false, or-l, or-r, implied, implies}
+use Rattle.calculus.specs.Process.{Process, prefix, branch, Prefix, act, out, join, Branching}
 use Rattle.calculus.specs.Places.{own, sets}
+use Rattle.calculus.specs.Rows.{rows}
 use Rattle.steps.specs.Rows.{Row, NIL, PREFIX, BRANCH, Kids, Child, Once}
 use Rattle.steps.specs.Marks.{Marks, Stand, waits, passed, dropped, stand, Open, both, left, right, open-branches, afterMark, afterTaken}
 use Rattle.steps.specs.InFront.{parentOf, rightOf, waitsBy, opens}
@@ -22,6 +24,10 @@ use Rattle.steps.proofs.InFront.{waits-is}
 use Rattle.sheet.specs.Table.{rowAt}
 use Rattle.moves.specs.Steps.{remainderIn}
 use Rattle.moves.specs.Fits.{keepsBy, keeps, live, clearPrefix, clearRow, clearOk, clearFit}
+
+neither : or false (or false false) ≡ false
+unfolding or
+neither = refl
 
 module _ (ts : List ℕ) (n : ℕ) (kids : (i : ℕ) → i < n → Kids i n (rowAt ts i)) (once : Once (rowAt ts) n) (μ : Marks) where
   abbrev R : ℕ → Process
@@ -38,42 +44,51 @@ module _ (ts : List ℕ) (n : ℕ) (kids : (i : ℕ) → i < n → Kids i n (row
   unfolding live
   live-child = walk-child (rowAt ts) kept n kids once
 
-  -- a link that a row's remainder sets is set by the remainder of the row above, if that keeps the branch
-  mark-sets : (l i : ℕ) (π : Prefix) (P : Process) (s : Stand) → keepsBy s ≡ true → sets P l ≡ true → sets (afterMark s i π P) l ≡ true
-  unfolding keepsBy sets
-  mark-sets l i π P waits k e = or-r _ e
-  mark-sets l i π P passed k e = e
-  mark-sets l i π P dropped k e = absurd (true≢false (sym k))
+  -- a test of processes that holds of a whole where it holds of a part: then it holds of what is left of the sheet where it holds of what is left of a row in it
+  module _ (T : Process → Bool) (behind : (r : ℕ) (π : Prefix) (P : Process) → T P ≡ true → T (prefix r π P) ≡ true) (on-left : (r : ℕ) (κ : Branching) (P Q : Process) → T P ≡ true → T (branch r κ P Q) ≡ true) (on-right : (r : ℕ) (κ : Branching) (P Q : Process) → T Q ≡ true → T (branch r κ P Q) ≡ true) where
+    mark-up : (i : ℕ) (π : Prefix) (P : Process) (s : Stand) → keepsBy s ≡ true → T P ≡ true → T (afterMark s i π P) ≡ true
+    unfolding keepsBy
+    mark-up i π P waits k e = behind i π P e
+    mark-up i π P passed k e = e
+    mark-up i π P dropped k e = absurd (true≢false (sym k))
 
-  open-left : (l i : ℕ) (κ : Branching) (P Q : Process) (o : Open) → opens o false ≡ true → sets P l ≡ true → sets (afterTaken o i κ P Q) l ≡ true
-  unfolding opens sets
-  open-left l i κ P Q both k e = or-l _ e
-  open-left l i κ P Q left k e = e
-  open-left l i κ P Q right k e = absurd (true≢false (sym k))
+    open-left : (i : ℕ) (κ : Branching) (P Q : Process) (o : Open) → opens o false ≡ true → T P ≡ true → T (afterTaken o i κ P Q) ≡ true
+    unfolding opens
+    open-left i κ P Q both k e = on-left i κ P Q e
+    open-left i κ P Q left k e = e
+    open-left i κ P Q right k e = absurd (true≢false (sym k))
 
-  open-right : (l i : ℕ) (κ : Branching) (P Q : Process) (o : Open) → opens o true ≡ true → sets Q l ≡ true → sets (afterTaken o i κ P Q) l ≡ true
-  unfolding opens sets
-  open-right l i κ P Q both k e = or-r _ e
-  open-right l i κ P Q left k e = absurd (true≢false (sym k))
-  open-right l i κ P Q right k e = e
+    open-right : (i : ℕ) (κ : Branching) (P Q : Process) (o : Open) → opens o true ≡ true → T Q ≡ true → T (afterTaken o i κ P Q) ≡ true
+    unfolding opens
+    open-right i κ P Q both k e = on-right i κ P Q e
+    open-right i κ P Q left k e = absurd (true≢false (sym k))
+    open-right i κ P Q right k e = e
 
-  up-sets : (l i j : ℕ) (N : Row) (m : ℕ) (s : Bool) → Child N s j → keeps N m s ≡ true → sets (R j) l ≡ true → sets (remainderBy i N m R) l ≡ true
-  unfolding remainderBy Child keeps
-  up-sets l i j NIL m s c k e = absurd c
-  up-sets l i j (PREFIX π d) m false c k e = mark-sets l i π (R d) (stand m) k (rw c e)
-  up-sets l i j (PREFIX π d) m true c k e = absurd c
-  up-sets l i j (BRANCH κ a b) m false c k e = open-left l i κ (R a) (R b) (open-branches κ m) k (rw c e)
-  up-sets l i j (BRANCH κ a b) m true c k e = open-right l i κ (R a) (R b) (open-branches κ m) k (rw c e)
+    row-up : (i j : ℕ) (N : Row) (m : ℕ) (s : Bool) → Child N s j → keeps N m s ≡ true → T (R j) ≡ true → T (remainderBy i N m R) ≡ true
+    unfolding remainderBy Child keeps
+    row-up i j NIL m s c k e = absurd c
+    row-up i j (PREFIX π d) m false c k e = mark-up i π (R d) (stand m) k (rw c e)
+    row-up i j (PREFIX π d) m true c k e = absurd c
+    row-up i j (BRANCH κ a b) m false c k e = open-left i κ (R a) (R b) (open-branches κ m) k (rw c e)
+    row-up i j (BRANCH κ a b) m true c k e = open-right i κ (R a) (R b) (open-branches κ m) k (rw c e)
+
+    live-up : (j : ℕ) → j < n → live ts μ j ≡ true → T (R j) ≡ true → T (R 0) ≡ true
+    unfolding live
+    live-up j h e s =
+        walk-induction (rowAt ts) kept (λ j. (j < n) × (T (R j) ≡ true))
+        (λ j a _ k c.
+        let p : ℕ = parentOf (rowAt ts) j in
+        let b : p < n = omega (arith, a, c .0) in
+        (b, ap T (remainder-at (rowAt ts) n μ kids p b) ∙ row-up p j (rowAt ts p) (μ p) (rightOf (rowAt ts) j) (parent-child (rowAt ts) j a) k (c .1)))
+        j e (h, s) .1
 
   live-sets : (l j : ℕ) → j < n → live ts μ j ≡ true → sets (R j) l ≡ true → sets (R 0) l ≡ true
-  unfolding live
-  live-sets l j h e s =
-      walk-induction (rowAt ts) kept (λ j. (j < n) × (sets (R j) l ≡ true))
-      (λ j a _ k c.
-      let p : ℕ = parentOf (rowAt ts) j in
-      let b : p < n = omega (arith, a, c .0) in
-      (b, ap (λ (P : Process). sets P l) (remainder-at (rowAt ts) n μ kids p b) ∙ up-sets l p j (rowAt ts p) (μ p) (rightOf (rowAt ts) j) (parent-child (rowAt ts) j a) k (c .1)))
-      j e (h, s) .1
+  unfolding sets
+  live-sets l = live-up (λ P. sets P l) (λ r π P e. or-r _ e) (λ r κ P Q e. or-l _ e) (λ r κ P Q e. or-r _ e)
+
+  live-rows : (k j : ℕ) → j < n → live ts μ j ≡ true → rows (R j) k ≡ true → rows (R 0) k ≡ true
+  unfolding rows
+  live-rows k = live-up (λ P. rows P k) (λ r π P e. or-r _ e) (λ r κ P Q e. or-r _ (or-l _ e)) (λ r κ P Q e. or-r _ (or-r _ e))
 
   own-sets : (l i c : ℕ) (b : Bool) → i < n → rowAt ts i ≡ PREFIX (out l b) c → waitsBy (stand (μ i)) ≡ true → sets (R i) l ≡ true
   unfolding remainderBy sets own
@@ -139,3 +154,61 @@ module _ (ts : List ℕ) (n : ℕ) (kids : (i : ℕ) → i < n → Kids i n (row
   -- (d) IN THE DOCUMENT'S WORDS: "each link set by the remainder is unset"
   pub clear-said : 0 < n → (links : List ℕ) → Holds (clearFit ts n μ links) ↔ ((l : ℕ) → sets (R 0) l ≡ true → getD links l 0 ≡ 0)
   clear-said h links = (λ f l. rows-clear links (λ i g. f i (omega arith) g) l h, λ f i _ g. clear-rows links f i g)
+
+  -- A WAITING ACT, OUT OR JOIN IS LIVE exactly if it stands in the remainder
+  module _ (k : ℕ) where
+    abbrev Stands : ℕ → Type 0
+    Stands i = live ts μ i ≡ true → rows (R i) k ≡ true → live ts μ k ≡ true
+
+    itself : (i : ℕ) → live ts μ i ≡ true → eqb k i ≡ true → live ts μ k ≡ true
+    itself i e q = ap (live ts μ) (eqb-true k i q) ∙ e
+
+    mark-stands : (i : ℕ) (π : Prefix) (P : Process) (s : Stand) → live ts μ i ≡ true → (keepsBy s ≡ true → rows P k ≡ true → live ts μ k ≡ true) → rows (afterMark s i π P) k ≡ true → live ts μ k ≡ true
+    unfolding keepsBy rows
+    mark-stands i π P waits e f r = ⊎-elim (itself i e) (f refl) (or-true r)
+    mark-stands i π P passed e f r = f refl r
+    mark-stands i π P dropped e f r = itself i e r
+
+    open-stands : (i : ℕ) (κ : Branching) (P Q : Process) (o : Open) → live ts μ i ≡ true → (opens o false ≡ true → rows P k ≡ true → live ts μ k ≡ true) → (opens o true ≡ true → rows Q k ≡ true → live ts μ k ≡ true) → rows (afterTaken o i κ P Q) k ≡ true → live ts μ k ≡ true
+    unfolding opens rows
+    open-stands i κ P Q both e f g r = ⊎-elim (itself i e) (λ q. ⊎-elim (f refl) (g refl) (or-true q)) (or-true r)
+    open-stands i κ P Q left e f g r = f refl r
+    open-stands i κ P Q right e f g r = g refl r
+
+    stands-by : (i : ℕ) → i < n → ((j : ℕ) → i < j → j < n → Stands j) → live ts μ i ≡ true → (N : Row) → rowAt ts i ≡ N → Kids i n N → rows (remainderBy i N (μ i) R) k ≡ true → live ts μ k ≡ true
+    unfolding remainderBy Kids Child keeps rows
+    stands-by i h ih e NIL p c r = itself i e r
+    stands-by i h ih e (PREFIX π d) p c r = mark-stands i π (R d) (stand (μ i)) e (λ q. ih d (c .0) (c .1) (live-child i d false h (rw p refl) e (rw p q))) r
+    stands-by i h ih e (BRANCH κ a b) p c r =
+        open-stands i κ (R a) (R b) (open-branches κ (μ i)) e
+        (λ q. ih a (c .0 .0) (c .0 .1) (live-child i a false h (rw p refl) e (rw p q)))
+        (λ q. ih b (c .1 .0) (c .1 .1) (live-child i b true h (rw p refl) e (rw p q))) r
+
+    stands : (i : ℕ) → i < n → Stands i
+    stands = row-induction (rowAt ts) n kids Stands (λ i h ih e r. stands-by i h ih e (rowAt ts i) refl (kids i h) (sym (ap (λ (P : Process). rows P k) (remainder-at (rowAt ts) n μ kids i h)) ∙ r))
+
+    own-row : (π : Prefix) (c : ℕ) → k < n → rowAt ts k ≡ PREFIX π c → waitsBy (stand (μ k)) ≡ true → rows (R k) k ≡ true
+    unfolding remainderBy rows
+    own-row π c h e w =
+        ap (λ (P : Process). rows P k) (remainder-at (rowAt ts) n μ kids k h ∙ (ap (λ (N : Row). remainderBy k N (μ k) R) e ∙ ap (λ (s : Stand). afterMark s k π (R c)) (waits-is (stand (μ k)) w))) ∙ or-l _ (self k)
+
+    pub live-said : 0 < n → k < n → (π : Prefix) (c : ℕ) → rowAt ts k ≡ PREFIX π c → waitsBy (stand (μ k)) ≡ true → (live ts μ k ≡ true) ↔ (rows (R 0) k ≡ true)
+    live-said some h π c e w = (λ l. live-rows k k h l (own-row π c h e w), λ r. stands 0 some live-root r)
+
+    -- the row breaks (d) exactly if it is a waiting OUT of the remainder whose link is set
+    pub row-said : 0 < n → k < n → (links : List ℕ) → (clearOk ts μ links k ≡ false) ↔ ((l : ℕ) × (b : Bool) × (c : ℕ) × (rowAt ts k ≡ PREFIX (out l b) c) × (waitsBy (stand (μ k)) ≡ true) × (rows (R 0) k ≡ true) × (getD links l 0 ≡ 0 → ⊥))
+    unfolding clearOk clearRow clearPrefix
+    row-said some h links = (
+      λ e. let (a, b) = or-false e in by (rowAt ts k) refl (not-false (live ts μ k) a) b,
+      λ (l, b, c, e, w, r, z). rw (live-said some h (out l b) c e w .1 r, e, w, ne-eqb (getD links l 0) 0 z) neither,
+    )
+      where
+        by : (N : Row) → rowAt ts k ≡ N → live ts μ k ≡ true → clearRow N (μ k) links ≡ false → (l : ℕ) × (b : Bool) × (c : ℕ) × (rowAt ts k ≡ PREFIX (out l b) c) × (waitsBy (stand (μ k)) ≡ true) × (rows (R 0) k ≡ true) × (getD links l 0 ≡ 0 → ⊥)
+        by NIL p q e = absurd (true≢false e)
+        by (PREFIX (act a) c) p q e = absurd (true≢false (or-false e .1))
+        by (PREFIX (out l b) c) p q e =
+            let (a, z) = or-false e in
+            let w : waitsBy (stand (μ k)) ≡ true = not-false (waitsBy (stand (μ k))) a in
+            (l, b, c, p, w, live-said some h (out l b) c p w .0 q, λ y. true≢false (sym (eq-eqb (getD links l 0) 0 y) ∙ z))
+        by (PREFIX (join j) c) p q e = absurd (true≢false (or-false e .1))
+        by (BRANCH κ a b) p q e = absurd (true≢false e)

@@ -1,7 +1,7 @@
 -- DEMAND 2: what the calls answer follows document 01, and through it report R. Assumes nothing.
 use Prim.Native.Nat.{ℕ, _*_, _<_, _≤_}
 use mathlib.Core.Path.{_≡_, refl, sym, _∙_, ap, subst}
-use mathlib.Core.Bool.{Bool, true}
+use mathlib.Core.Bool.{Bool, true, false}
 use mathlib.Core.List.{List, List·Memᴰ, _++_}
 use mathlib.Core.Logic.{_⊎_, inl, inr, ⊎-elim, _↔_}
 use lib.ListN.{getD, length, take, drop}
@@ -11,6 +11,7 @@ use Rattle.laws.specs.Listed.{Rising}
 use Rattle.laws.proofs.Checks.{checked-map}
 use Rattle.laws.proofs.Listed.{listed-rising}
 use Rattle.calculus.specs.Process.{Process, join}
+use Rattle.calculus.specs.Process as process
 use Rattle.calculus.specs.Typing.{Types}
 use Rattle.calculus.specs.Status.{Value, Unset, True, Links}
 use Rattle.calculus.specs.Plain.{Label}
@@ -24,7 +25,8 @@ use Rattle.conditions.specs.Meaning.{meaning}
 use Rattle.conditions.proofs.Operators.{table-means}
 use Rattle.conditions.proofs.Evaluation.{strict-unset, strict-lazy, value-1}
 use Rattle.steps.specs.Rows.{PREFIX, Child, term}
-use Rattle.steps.specs.InFront.{waiting, waitingStep, waitingSteps}
+use Rattle.steps.specs.Marks.{stand}
+use Rattle.steps.specs.InFront.{waitsBy, waiting, waitingStep, waitingSteps}
 use Rattle.steps.specs.Verdict.{SheetPasses}
 use Rattle.steps.proofs.Sources.{typable}
 use Rattle.sheet.specs.declared.Head.{Head}
@@ -44,10 +46,10 @@ use Rattle.state.specs.declared.State.{State}
 use Rattle.state.specs.declared.StepKind.the-variants.{Clean}
 use Rattle.state.specs.State.{sideMark}
 use Rattle.moves.specs.Steps.{marksOf, linksOf, Sized, leftIn, kindIn, hasStep, listedOf, steppedOf, isWaitingPick}
-use Rattle.moves.specs.Fits.{held, waitsFit, clearFit}
+use Rattle.moves.specs.Fits.{held, clearOk, waitsFit, clearFit}
 use Rattle.moves.specs.Above.{Below, PickAbove}
 use Rattle.moves.proofs.Below.{held-said, waits-said}
-use Rattle.moves.proofs.Clear.{clear-said}
+use Rattle.moves.proofs.Clear.{clear-said, row-said}
 use Rattle.moves.proofs.Allowed.{listed-allowed as steps-allowed, allowed-listed as allowed-steps}
 use Rattle.moves.proofs.Decided.{row-marked, pick-decided}
 use Rattle.moves.proofs.Kept.{nothing-else as nothing-else-steps}
@@ -180,6 +182,10 @@ fits-says t e s =
 -- (c), its place: "lowest row that should wait and does not". A row should wait exactly if it stands below a waiting ACT, OUT or JOIN.
 pub should-wait : (t : Table) → refusalOf t .number ≡ 0 → (s : State) (k : ℕ) → k < t .n → (held (t .terms) (marksOf s) k ≡ true) ↔ ((i : ℕ) × Below (t .terms) (t .n) i k × (waitingStep (rowAt (t .terms) i) (marksOf s i) ≡ true))
 should-wait t e s = held-said (t .terms) (t .n) (well-formed t (meets t e) .tree) (marksOf s)
+
+-- (d), its place: "lowest OUT row". A row breaks (d) exactly if it is a waiting OUT of the remainder whose link is set.
+pub out-is-set : (t : Table) → refusalOf t .number ≡ 0 → (s : State) (k : ℕ) → k < t .n → (clearOk (t .terms) (marksOf s) (s .links) k ≡ false) ↔ ((l : ℕ) × (b : Bool) × (c : ℕ) × (rowAt (t .terms) k ≡ PREFIX (process.out l b) c) × (waitsBy (stand (marksOf s k)) ≡ true) × (rows (leftIn t s) k ≡ true) × (link s l ≡ 0 → ⊥))
+out-is-set t e s k h = let tree = well-formed t (meets t e) .tree in row-said (t .terms) (t .n) (tree .kids) (tree .once) (marksOf s) k (tree .some-row) h (s .links)
 
 -- "The list of steps is in rising row order."
 pub listed-rises : (t : Table) (s : State) → Accepted t s → Rising (listedRows t s)
