@@ -19,6 +19,14 @@ fn wide(x: u8) -> usize {
     x as usize
 }
 
+fn refused_seen(number: u8, place: usize) -> Seen {
+    Seen {
+        a: wide(number),
+        b: place,
+        c: 0,
+    }
+}
+
 // The links, rows and conditions of a sheet.
 fn sheet_seen(answer: SheetAnswer) -> Seen {
     match answer {
@@ -27,22 +35,14 @@ fn sheet_seen(answer: SheetAnswer) -> Seen {
             b: h.n,
             c: h.k,
         },
-        SheetAnswer::Refused(number, place) => Seen {
-            a: number as usize,
-            b: place,
-            c: 0,
-        },
+        SheetAnswer::Refused(number, place) => refused_seen(number, place),
     }
 }
 
 // Number and place; 0 for a table that is accepted.
 fn judged_seen(h: Head, ts: &[u8], cs: &[u8]) -> Seen {
     let r = sheet_engine::judge_table(h, ts, cs);
-    Seen {
-        a: r.number as usize,
-        b: r.place,
-        c: 0,
-    }
+    refused_seen(r.number, r.place)
 }
 
 // The size, and the byte at a place.
@@ -54,11 +54,7 @@ fn written_seen(h: Head, ts: &[u8], cs: &[u8], at: u8) -> Seen {
             b: wide(out[at as usize]),
             c: 0,
         },
-        SizeAnswer::Refused(number, place) => Seen {
-            a: number as usize,
-            b: place,
-            c: 0,
-        },
+        SizeAnswer::Refused(number, place) => refused_seen(number, place),
     }
 }
 
@@ -71,11 +67,7 @@ fn verdict_seen(answer: VerdictAnswer) -> Seen {
             b: number,
             c: link,
         },
-        VerdictAnswer::Refused(number, place) => Seen {
-            a: number as usize,
-            b: place,
-            c: 0,
-        },
+        VerdictAnswer::Refused(number, place) => refused_seen(number, place),
     }
 }
 
@@ -87,11 +79,7 @@ fn size_seen(answer: SizeAnswer, rows: [u8; 256], at: u8) -> Seen {
             b: rows[at as usize] as usize,
             c: 0,
         },
-        SizeAnswer::Refused(number, place) => Seen {
-            a: number as usize,
-            b: place,
-            c: 0,
-        },
+        SizeAnswer::Refused(number, place) => refused_seen(number, place),
     }
 }
 
@@ -110,11 +98,7 @@ fn kind_seen(kind: StepKind) -> Seen {
         },
         StepKind::Open => Seen { a: 3, b: 0, c: 0 },
         StepKind::Clean => Seen { a: 4, b: 0, c: 0 },
-        StepKind::Refused(number, place) => Seen {
-            a: number as usize,
-            b: place,
-            c: 0,
-        },
+        StepKind::Refused(number, place) => refused_seen(number, place),
     }
 }
 
@@ -190,40 +174,28 @@ fn answer(
     state_seen(s, row)
 }
 
-// Reading alone: any other call reads the sheet before.
-fn read(made: bool, s: &[u8]) -> Seen {
-    if made {
-        return sheet_seen(sheet_engine::read_sheet(s));
+// Reading alone, or a part: any other call reads the sheet before.
+fn read(call: u8, made: bool, s: &[u8]) -> Seen {
+    if !made {
+        return Seen {
+            a: s.len(),
+            b: 0,
+            c: 0,
+        };
     }
-    Seen {
-        a: s.len(),
-        b: 0,
-        c: 0,
-    }
-}
-
-// The same for a part.
-fn part(made: bool, s: &[u8]) -> Seen {
-    if made {
+    if call == b'p' {
         return Seen {
             a: sheet_engine::terms_part(s).len(),
             b: 0,
             c: 0,
         };
     }
-    Seen {
-        a: s.len(),
-        b: 0,
-        c: 0,
-    }
+    sheet_seen(sheet_engine::read_sheet(s))
 }
 
 fn run(call: u8, made: bool, mode: u8, row: u8, rows: &[u8], s: &[u8]) -> Seen {
-    if call == b'r' {
-        return read(made, s);
-    }
-    if call == b'p' {
-        return part(made, s);
+    if (call == b'r') | (call == b'p') {
+        return read(call, made, s);
     }
     match sheet_engine::read_sheet(s) {
         SheetAnswer::Sheet(h) => answer(
@@ -236,11 +208,7 @@ fn run(call: u8, made: bool, mode: u8, row: u8, rows: &[u8], s: &[u8]) -> Seen {
             sheet_engine::terms_part(s),
             sheet_engine::conditions_part(s),
         ),
-        SheetAnswer::Refused(number, place) => Seen {
-            a: number as usize,
-            b: place,
-            c: 0,
-        },
+        SheetAnswer::Refused(number, place) => refused_seen(number, place),
     }
 }
 
