@@ -15,7 +15,7 @@ use Rattle.conditions.specs.Operators.{table}
 use Rattle.conditions.specs.Conditions.{conditionBy, condition, reached as reachedFrom, lazy, allSet, strict, value}
 use Rattle.conditions.specs.Numbers.{digit, undigit, linksOf, assign}
 use Rattle.conditions.specs.Failure.{flips, offender, quiet, number, fails}
-use Rattle.steps.specs.Rows.{termBy, term, firstOf, secondOf, isSource}
+use Rattle.steps.specs.Rows.{termBy, term, firstOf, secondOf, isJoinPrefix, isJoin, conditionOfPrefix, conditionOf, isSource}
 use Rattle.steps.specs.Marks.{stand, open-branches, remainder}
 use Rattle.steps.specs.InFront.{names, parentOf, rightOf, waitsBy, undecided, waiting, waitingStep, passedBy, opens, leads, inheritedBy, inherited, reached, inFront}
 use Rattle.sheet.specs.Table.{rowBy, rowAt, operatorOf, conditionRowBy, conditionRowAt, lazyOf, evaluationOf}
@@ -27,7 +27,7 @@ use Rattle.moves.specs.Steps.{modeOf, turnBy, turnAt, kindOf, kindBy, kindTurne
 use Rattle.moves.specs.Fits.{suitsPrefix, suitsBranch, suits, markOk, linkOk, held, waitOk, keepsBy, keeps, live, clearPrefix, clearRow, clearOk}
 use Rattle.engine.specs.ByValue.{takenAnswer}
 use Rattle.failure.specs.Failure.{failsAt, numberAt as failureAt, linkAt}
-use Rattle.verdict.specs.Verdict.{isJoinPrefix, isJoin, conditionOfPrefix, conditionOf, sound, failing, failAt, verdictOf}
+use Rattle.verdict.specs.Verdict.{sound, failing, failAt, verdictOf}
 use Rattle.sheet_engine.specs.Answers.{given, verdictAnswer, startAnswer, listAnswer, listBuffer, kindAnswer, stepAnswer}
 use Rattle.promises.specs.Calls.{listedIn}
 use Rattle.promises.specs.Cases.{Case, tableRead, answerTo, cases}

@@ -11,8 +11,11 @@ use denote.Triple.Clauses.{AtExit}
 use denote.Ref.{now}
 use Rattle.laws.specs.Checks.{checked}
 use Rattle.laws.proofs.Checks.{checked-map}
+use Rattle.conditions.specs.Conditions.{condition}
+use Rattle.conditions.proofs.Numbers.{links-number}
+use Rattle.steps.specs.Rows.{conditionOf}
 use Rattle.steps.specs.Verdict.{SheetPasses}
-use Rattle.sheet.specs.Table.{Table, tableOf, rowAt, evalIn}
+use Rattle.sheet.specs.Table.{Table, tableOf, rowAt, conditionRowAt, evalIn}
 use Rattle.sheet.specs.declared.Refusal.{Refusal}
 use Rattle.sheet.specs.Rules.{tableChecks, refuse, refusalOf}
 use Rattle.sheet.proofs.Accepted.{meets, well-formed, single-source}
@@ -24,7 +27,7 @@ use Rattle.moves.proofs.Fits.{fresh-fits}
 use Rattle.moves.proofs.Demand.{demand-3}
 use Rattle.verdict.specs.declared.Verdict.{Verdict}
 use Rattle.verdict.specs.declared.Verdict.the-variants as verdict
-use Rattle.verdict.specs.Verdict.{conditionOf, failing, verdictOf}
+use Rattle.verdict.specs.Verdict.{failing, verdictOf}
 use Rattle.verdict.proofs.Joins.{verdict-pass}
 use Rattle.verdict.proofs.Exactly.{pass-exactly, fail-is-given, fail-is-join, fail-lowest-row, fail-offends, fail-smallest, fail-lowest}
 use Rattle.sheet_engine.specs.declared.VerdictAnswer.{VerdictAnswer}
@@ -119,6 +122,7 @@ module _ (t : Table) where
         inside = b;
         is-join = is;
         lower-rows-pass = fail-lowest-row t g b;
+        sum = links-number (t .m) (condition (conditionRowAt (t .conditions)) (conditionOf (rowAt (t .terms) (failing t)))) _ (fail-offends t g b .small);
         offends = fail-offends t g b;
         smallest = fail-smallest t g b;
         lowest = fail-lowest t g b;

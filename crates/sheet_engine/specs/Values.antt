@@ -9,7 +9,7 @@ use lib.ListN.{getD}
 use Rattle.laws.specs.Checks.{Check, checked, AllHold}
 use Rattle.calculus.specs.Process.{join}
 use Rattle.calculus.specs.Order.{Condition2}
-use Rattle.conditions.specs.Numbers.{Offends, digit}
+use Rattle.conditions.specs.Numbers.{numberOf, assign, Offends, digit}
 use Rattle.steps.specs.Rows.{PREFIX}
 use Rattle.sheet.specs.Table.{Table, rowAt, evalIn}
 use Rattle.sheet.specs.Rules.{refuse}
@@ -41,13 +41,14 @@ verdictValues Pass = record { refusal = 0; place = 0; fails = 0; row = 0; number
 verdictValues (Fail row number link) = record { refusal = 0; place = 0; fails = 1; row = row; number = number; link = link }
 verdictValues (Refused number place) = record { refusal = number; place = place; fails = 0; row = 0; number = 0; link = 0 }
 
--- "A failure names the lowest JOIN row that fails, a number and a link." "It is the smallest such number at which the condition is true and some false link, made unset, leaves it not true; the link is the lowest such one."
+-- "A failure names the lowest JOIN row that fails, a number and a link." "Take the links of the condition in rising order; the number is the sum of value times 1, 3, 9 and so on. It is the smallest such number at which the condition is true and some false link, made unset, leaves it not true; the link is the lowest such one."
 pub record FailsAt (t : Table) (j x l : ℕ) : Type 0 where
   pub condition : ℕ
   pub child : ℕ
   pub inside : j < t .n
   pub is-join : rowAt (t .terms) j ≡ PREFIX (join condition) child
   pub lower-rows-pass : (i q d : ℕ) → i < j → rowAt (t .terms) i ≡ PREFIX (join q) d → Condition2 (evalIn t q)
+  pub sum : numberOf (linksAt (t .m) (t .conditions) condition) (assign (linksAt (t .m) (t .conditions) condition) x) ≡ x
   pub offends : Offends (evalIn t condition) (linksAt (t .m) (t .conditions) condition) x l
   pub smallest : (y k : ℕ) → Offends (evalIn t condition) (linksAt (t .m) (t .conditions) condition) y k → x ≤ y
   pub lowest : (k : ℕ) → Offends (evalIn t condition) (linksAt (t .m) (t .conditions) condition) x k → l ≤ k

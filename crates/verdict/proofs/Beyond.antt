@@ -12,14 +12,14 @@ use borrow.Author.Tests.{le-ltb, not-false}
 use Rattle.laws.proofs.Tests.{and-l}
 use Rattle.laws.proofs.Lowest.{lowest-at, lowest-same}
 use Rattle.calculus.specs.Process.{act, out, join}
-use Rattle.steps.specs.Rows.{Row, NIL, PREFIX, BRANCH}
+use Rattle.steps.specs.Rows.{Row, NIL, PREFIX, BRANCH, isJoinPrefix, isJoin, conditionOfPrefix, conditionOf}
 use Rattle.sheet.specs.Table.{Table, cut, rowAt}
 use Rattle.sheet.specs.Accepted.{WellFormed}
 use Rattle.sheet.proofs.Beyond.{row-same, condition-same}
 use Rattle.failure.specs.Failure.{failsAt, numberAt, linkAt}
 use Rattle.verdict.specs.declared.Verdict.{Verdict}
 use Rattle.verdict.specs.declared.Verdict.the-variants.{Pass}
-use Rattle.verdict.specs.Verdict.{isJoinPrefix, isJoin, conditionOfPrefix, conditionOf, failsIn, sound, failing, failAt, verdictOf}
+use Rattle.verdict.specs.Verdict.{failsIn, sound, failing, failAt, verdictOf}
 use Rattle.verdict.proofs.Exactly.{join-of}
 
 -- the failure of a condition row below k

@@ -14,12 +14,12 @@ use Rattle.conditions.specs.Conditions.{condition}
 use Rattle.conditions.specs.Numbers.{Offends}
 use Rattle.conditions.proofs.Failure.{fails-offends, number-smallest, link-lowest, condition-fails, condition-holds}
 use Rattle.conditions.proofs.Numbers.{links-inside}
-use Rattle.steps.specs.Rows.{Row, NIL, PREFIX, BRANCH}
+use Rattle.steps.specs.Rows.{Row, NIL, PREFIX, BRANCH, isJoinPrefix, isJoin, conditionOfPrefix, conditionOf}
 use Rattle.steps.specs.Verdict.{SheetPasses}
 use Rattle.sheet.specs.Table.{Table, rowAt, conditionRowAt, evaluationOf, evalIn}
 use Rattle.failure.specs.Failure.{linksAt, failsAt, numberAt, linkAt}
 use Rattle.verdict.specs.declared.Verdict.the-variants.{Pass, Fail}
-use Rattle.verdict.specs.Verdict.{isJoinPrefix, isJoin, conditionOfPrefix, conditionOf, failsIn, sound, failing, failAt, verdictOf, Judged}
+use Rattle.verdict.specs.Verdict.{failsIn, sound, failing, failAt, verdictOf, Judged}
 use Rattle.verdict.proofs.Joins.{kindAt, secondAt, join-row, sound-other, verdict-fail, verdict-pass}
 
 pub join-of : (N : Row) → isJoin N ≡ true → (d : ℕ) × (N ≡ PREFIX (join (conditionOf N)) d)

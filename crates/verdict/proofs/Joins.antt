@@ -13,14 +13,14 @@ use borrow.Author.Tests.{lt-ltb, le-ltb, ne-eqb, not-true}
 use Rattle.laws.specs.Up.{Filled}
 use Rattle.laws.proofs.Up.{filled-at, getD-constant}
 use Rattle.calculus.specs.Process.{act, out, join, pick, flow}
-use Rattle.steps.specs.Rows.{NIL, PREFIX, BRANCH}
+use Rattle.steps.specs.Rows.{NIL, PREFIX, BRANCH, isJoinPrefix, isJoin, conditionOfPrefix, conditionOf}
 use Rattle.sheet.specs.Table.{Table, rowBy, rowAt}
 use Rattle.reach.specs.Masks.{maskAt}
 use Rattle.failure.specs.declared.Failure.the-variants.{None, At}
 use Rattle.failure.specs.Failure.{numberAt, linkAt, failureOf, Narrow}
 use Rattle.failure.proofs.Search.{failure-none}
 use Rattle.verdict.specs.declared.Verdict.the-variants.{Pass, Fail}
-use Rattle.verdict.specs.Verdict.{isJoinPrefix, isJoin, conditionOfPrefix, conditionOf, failsIn, sound, failing, failAt, verdictOf, Judged}
+use Rattle.verdict.specs.Verdict.{failsIn, sound, failing, failAt, verdictOf, Judged}
 use Rattle.verdict.specs.Tried.{failureIn, Tried, marked}
 
 -- a row of kind 3 is a JOIN on the row that its second byte names

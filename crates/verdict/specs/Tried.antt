@@ -4,12 +4,12 @@ use mathlib.Core.Path.{_≡_}
 use mathlib.Core.Bool.{false, cond}
 use mathlib.Core.List.{List}
 use lib.ListN.{getD, set}
-use Rattle.steps.specs.Rows.{Row}
+use Rattle.steps.specs.Rows.{Row, isJoin, conditionOf}
 use Rattle.sheet.specs.Table.{Table, rowAt}
 use Rattle.failure.specs.declared.Failure.{Failure}
 use Rattle.failure.specs.declared.Failure.the-variants.{None}
 use Rattle.failure.specs.Failure.{failureOf}
-use Rattle.verdict.specs.Verdict.{isJoin, conditionOf, failsIn}
+use Rattle.verdict.specs.Verdict.{failsIn}
 
 -- that of its condition, if it is a JOIN
 unfoldable pub failureIn : Table → ℕ → Failure

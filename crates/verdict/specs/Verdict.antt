@@ -1,38 +1,17 @@
 -- Document 01, "The verdict": "A failure names the lowest JOIN row that fails, a number and a link."
 use Prim.Native.Nat.{ℕ, _*_, _<_, _≤_}
 use mathlib.Core.Path.{_≡_}
-use mathlib.Core.Bool.{Bool, true, false, cond, not, _&&_}
+use mathlib.Core.Bool.{Bool, true, cond, not, _&&_}
 use lib.ListN.{length}
 use lib.Dec.{ltb}
 use Rattle.laws.specs.Lowest.{lowest}
-use Rattle.calculus.specs.Process.{Prefix, act, out, join}
+use Rattle.calculus.specs.Process.{join}
 use Rattle.conditions.specs.Conditions.{condition, reached}
-use Rattle.steps.specs.Rows.{Row, NIL, PREFIX, BRANCH}
+use Rattle.steps.specs.Rows.{PREFIX, isJoin, conditionOf}
 use Rattle.sheet.specs.Table.{Table, rowAt, conditionRowAt}
 use Rattle.failure.specs.Failure.{linksAt, failsAt, numberAt, linkAt}
 use Rattle.verdict.specs.declared.Verdict.{Verdict}
 use Rattle.verdict.specs.declared.Verdict.the-variants.{Pass, Fail}
-
--- a JOIN row, and its condition row; 0 for a row that is none
-unfoldable pub isJoinPrefix : Prefix → Bool
-isJoinPrefix (act a) = false
-isJoinPrefix (out l b) = false
-isJoinPrefix (join c) = true
-
-unfoldable pub isJoin : Row → Bool
-isJoin NIL = false
-isJoin (PREFIX π d) = isJoinPrefix π
-isJoin (BRANCH κ p q) = false
-
-unfoldable pub conditionOfPrefix : Prefix → ℕ
-conditionOfPrefix (act a) = 0
-conditionOfPrefix (out l b) = 0
-conditionOfPrefix (join c) = c
-
-unfoldable pub conditionOf : Row → ℕ
-conditionOf NIL = 0
-conditionOf (PREFIX π d) = conditionOfPrefix π
-conditionOf (BRANCH κ p q) = 0
 
 module _ (t : Table) where
   -- the condition at a row fails
