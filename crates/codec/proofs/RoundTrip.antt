@@ -20,7 +20,7 @@ use Rattle.sheet.proofs.Accepted.{Meets, meets, well-formed}
 use Rattle.sheet.proofs.Beyond.{cut-refusal, meets-accepted}
 use Rattle.codec.specs.declared.SheetAnswer.the-variants as sheet
 use Rattle.codec.specs.declared.SizeAnswer.the-variants as size
-use Rattle.codec.specs.Answers.{readOf, partOf, writeOf, writtenOf}
+use Rattle.codec.specs.Answers.{Bytes, readOf, partOf, writeOf, writtenOf}
 use Rattle.codec.proofs.Reading.{contents-right, Bodies, bodies}
 use Rattle.codec.proofs.Judged.{lengths, accepted-is, is-accepted}
 use Rattle.codec.proofs.Parts.{part-whole}
@@ -35,10 +35,6 @@ from-take : (s : List ℕ) (i c : ℕ) → i + c ≤ length s → take c (drop i
 unfolding from
 from-take s i zero h = refl
 from-take s i (suc c) h = ap (take (suc c)) (drop-cons s i 0 (omega arith)) ∙ ap (λ (xs : List ℕ). getD s i 0 ∷ xs) (from-take s (suc i) c (omega arith))
-
--- no number in the list is more than a byte
-abbrev pub Bytes : List ℕ → Type 0
-Bytes s = (i : ℕ) → getD s i 0 < 256
 
 low : (x a b : ℕ) → a < 256 → a + 256 * b ≡ x → x % 256 ≡ a
 low x a b h e = omega arith

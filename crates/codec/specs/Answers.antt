@@ -1,7 +1,7 @@
 -- What reading, handing on and writing answer, and what they leave in a lent buffer.
-use Prim.Native.Nat.{ℕ, _≤_}
+use Prim.Native.Nat.{ℕ, _<_, _≤_}
 use mathlib.Core.List.{List, [], _∷_, _++_}
-use lib.ListN.{length}
+use lib.ListN.{getD, length}
 use Rattle.laws.specs.Checks.{Check, Holds, checked}
 use Rattle.laws.specs.Listed.{written}
 use Rattle.sheet.specs.declared.Head.{Head}
@@ -12,6 +12,10 @@ use Rattle.codec.specs.declared.SheetAnswer.{SheetAnswer}
 use Rattle.codec.specs.declared.SheetAnswer.the-variants as sheet
 use Rattle.codec.specs.declared.SizeAnswer.{SizeAnswer}
 use Rattle.codec.specs.declared.SizeAnswer.the-variants as size
+
+-- no number of the lent bytes is more than a byte, as the checker knows of each that it is handed
+abbrev pub Bytes : List ℕ → Type 0
+Bytes s = (i : ℕ) → getD s i 0 < 256
 
 -- the head, or the first check that fails
 unfoldable pub readOf : List ℕ → SheetAnswer

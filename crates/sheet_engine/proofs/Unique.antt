@@ -49,7 +49,7 @@ use Rattle.sheet_engine.proofs.list_steps.Kinds as list-steps-kinds
 use Rattle.sheet_engine.proofs.step_in_place as step-in-place
 
 pub read-sheet-one : (κs : Lfts 1) (a : ArgsD read-sheet.signature κs) (z z′ : AtExit (endedOf 1 read-sheet-kinds.ps read-sheet-kinds.r) κs) (r r′ : ResD read-sheet.signature κs) → read-sheet-reads.Post κs a r z → read-sheet-reads.Post κs a r′ z′ → r ≡ r′
-read-sheet-one κs a z z′ r r′ p q = p ∙ sym q
+read-sheet-one κs a z z′ r r′ p q = p .0 ∙ sym (q .0)
 
 pub settings-part-one : (κs : Lfts 1) (a : ArgsD settings-part.signature κs) (z z′ : AtExit (endedOf 1 settings-part-kinds.ps settings-part-kinds.r) κs) (r r′ : ResD settings-part.signature κs) → settings-part-reads.Post κs a r z → settings-part-reads.Post κs a r′ z′ → now r ≡ now r′
 settings-part-one κs a z z′ r r′ p q = p ∙ sym q
@@ -73,14 +73,14 @@ pub start-one : (κs : Lfts 2) (a : ArgsD start.signature κs) (z z′ : AtExit 
 start-one κs a z z′ r r′ p q = p ∙ sym q
 
 pub step-kind-one : (κs : Lfts 2) (a : ArgsD step-kind.signature κs) (z z′ : AtExit (endedOf 2 step-kind-kinds.ps step-kind-kinds.r) κs) (r r′ : ResD step-kind.signature κs) → step-kind-reads.Post κs a r z → step-kind-reads.Post κs a r′ z′ → r ≡ r′
-step-kind-one κs a z z′ r r′ p q = p ∙ sym q
+step-kind-one κs a z z′ r r′ p q = p .0 ∙ sym (q .0)
 
 pub take-step-one : (κs : Lfts 2) (a : ArgsD take-step.signature κs) (z z′ : AtExit (endedOf 2 take-step-kinds.ps take-step-kinds.r) κs) (r r′ : ResD take-step.signature κs) → take-step-reads.Post κs a r z → take-step-reads.Post κs a r′ z′ → r ≡ r′
-take-step-one κs a z z′ r r′ p q = p ∙ sym q
+take-step-one κs a z z′ r r′ p q = p .0 ∙ sym (q .0)
 
 -- ... and no second content of the lent buffer
 pub list-steps-one : (κs : Lfts 3) (a : ArgsD list-steps.signature κs) (z z′ : AtExit (endedOf 3 list-steps-kinds.ps list-steps-kinds.r) κs) (r r′ : ResD list-steps.signature κs) → list-steps-reads.Post κs a r z → list-steps-reads.Post κs a r′ z′ → (r ≡ r′) × (now (z .1 .1 .1 .1 .0) ≡ now (z′ .1 .1 .1 .1 .0))
-list-steps-one κs a z z′ r r′ p q = (p .0 ∙ sym (q .0), p .1 ∙ sym (q .1))
+list-steps-one κs a z z′ r r′ p q = (p .0 .0 ∙ sym (q .0 .0), p .0 .1 ∙ sym (q .0 .1))
 
 -- ... and no second content of the caller's state record: said in the logic of the contract, at every model
 module _ {M : Type 1} (𝓤 : URA M) (H : Heap 𝓤) (A : Atoms 𝓤) (at-mem : Memory → SProp 𝓤) (run : Routine → Fun 𝓤) (κs : Lfts 3) (a : Args step-in-place.signature κs) where

@@ -5,7 +5,8 @@ ghost use Rattle.sheet.specs.Table.{tableOf};
 ghost use Rattle.laws.specs.Checks.{checked};
 ghost use Rattle.sheet.specs.Rules.{refuse, refusalOf};
 ghost use Rattle.sheet.specs.Sheet.{settingsOf, termsOf, conditionsOf};
-ghost use Rattle.codec.specs.Answers.{readOf, partOf, writeOf, writtenOf};
+ghost use Rattle.moves.specs.Steps.{Sized};
+ghost use Rattle.codec.specs.Answers.{Bytes, readOf, partOf, writeOf, writtenOf};
 ghost use Rattle.sheet_engine.specs.Answers.{verdictAnswer, startAnswer, callChecks, listAnswer, listBuffer, kindAnswer, stepAnswer};
 use codec::SheetAnswer;
 use codec::SizeAnswer;
@@ -37,6 +38,7 @@ pub struct Started {
 // The head of a sheet.
 pub fn read_sheet(s: &[u8]) -> SheetAnswer
     ensures { λ r. ⌜ r ≡ readOf (now (s .entry)) ⌝ }
+    ensures bytes { λ r. ⌜ Bytes (now (s .entry)) ⌝ }
 {
     codec::read(s)
 }
@@ -134,6 +136,7 @@ fn judge_state(s: State, h: Head, ts: &[u8], cs: &[u8]) -> Refusal
 // The rows that have a step, rising, to a lent buffer, and their number; 12 with the size that is needed.
 pub fn list_steps(s: State, h: Head, ts: &[u8], cs: &[u8], out: &mut [u8]) -> SizeAnswer
     ensures { λ r. ⌜ (r ≡ listAnswer (tableOf h (now (ts .entry)) (now (cs .entry))) s (length (now (out .entry)))) × (now (out .exit) ≡ listBuffer (tableOf h (now (ts .entry)) (now (cs .entry))) s (now (out .entry))) ⌝ }
+    ensures sized { λ r. ⌜ Sized s ⌝ }
 {
     let refusal = judge_state(s, h, ts, cs);
     let number = refusal.number;
@@ -152,6 +155,7 @@ pub fn list_steps(s: State, h: Head, ts: &[u8], cs: &[u8], out: &mut [u8]) -> Si
 // The step of a row; 11 and the row where it has none.
 pub fn step_kind(s: State, h: Head, ts: &[u8], cs: &[u8], row: usize) -> StepKind
     ensures { λ r. ⌜ r ≡ kindAnswer (tableOf h (now (ts .entry)) (now (cs .entry))) s row ⌝ }
+    ensures sized { λ r. ⌜ Sized s ⌝ }
 {
     let refusal = judge_state(s, h, ts, cs);
     let number = refusal.number;
@@ -165,6 +169,7 @@ pub fn step_kind(s: State, h: Head, ts: &[u8], cs: &[u8], row: usize) -> StepKin
 // Taking the step of a row: the kind and the new state; a refusal gives the state back as it was.
 pub fn take_step(s: State, h: Head, ts: &[u8], cs: &[u8], row: usize) -> Stepped
     ensures { λ r. ⌜ r ≡ stepAnswer (tableOf h (now (ts .entry)) (now (cs .entry))) s row ⌝ }
+    ensures sized { λ r. ⌜ Sized s ⌝ }
 {
     let refusal = judge_state(s, h, ts, cs);
     let number = refusal.number;
