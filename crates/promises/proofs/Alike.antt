@@ -14,18 +14,19 @@ use Rattle.laws.proofs.Tests.{not-both}
 use Rattle.calculus.specs.Order.{_⊑_}
 use Rattle.calculus.specs.Places.{Grows}
 use Rattle.calculus.proofs.Order.{below-cases}
-use Rattle.conditions.specs.Numbers.{digit, undigit}
+use Rattle.conditions.specs.Numbers.{digit}
+use Rattle.conditions.proofs.Numbers.{digit-undigit}
 use Rattle.sheet.specs.Table.{Table}
 use Rattle.evaluate.specs.Values.{linksIn}
 use Rattle.state.specs.declared.State.{State}
 use Rattle.state.specs.declared.StepKind.{StepKind}
 use Rattle.state.specs.declared.StepKind.the-variants.{Act, Set, Open, Clean, Refused}
-use Rattle.moves.specs.Steps.{linksOf, Sized, kindAt, hasStep, listedOf}
+use Rattle.moves.specs.Steps.{linksOf, kindAt, hasStep, listedOf}
 use Rattle.moves.specs.Fits.{linkOk}
 use Rattle.moves.specs.Runs.{Taken, unless-clean, struck, Alike}
 use Rattle.moves.proofs.Kept.{links-never-alter}
-use Rattle.promises.specs.Calls.{Accepted, link, listedSteps, Run, over, more, last}
-use Rattle.promises.proofs.Calls.{formed, one-source, kind-is, rows-are, taken-accepted, to-steps, run-keeps}
+use Rattle.promises.specs.Calls.{Accepted, link, listedSteps, Run, last}
+use Rattle.promises.proofs.Calls.{formed, one-source, unrefused, kind-is, rows-are, to-steps, run-keeps}
 
 -- a step is a cleaning step or stays
 clean-or : (k : StepKind) → (k ≡ Clean) ⊎ ((k ≡ Clean → ⊥) × ((x : Taken) (l : List Taken) → unless-clean x k l ≡ x ∷ l))
@@ -67,15 +68,9 @@ same-listed t s z a b h =
     shown s a ∙ (steps-struck (hasStep t s) (hasStep t z) (kindAt t s) (kindAt t z) (h .same-steps) (h .same-kinds) 0 (t .n) ∙ ap struck (sym (shown z b)))
   where
     shown : (s : State) → Accepted t s → listedSteps t s ≡ with-kinds (kindAt t s) (listedOf t s)
-    shown s a = ap₂ with-kinds (fun-ext (kind-is t s a)) (rows-are t s a)
+    shown s a = let e = unrefused t s a in ap₂ with-kinds (fun-ext (kind-is t s e)) (rows-are t s e)
 
 -- A byte of a state's links is the number of its value: 0 to 2 below 64, and 0 past it.
-undigit-small : (x : ℕ) → x ≤ 2 → digit (undigit x) ≡ x
-unfolding digit undigit
-undigit-small zero h = refl
-undigit-small (suc zero) h = refl
-undigit-small (suc (suc x)) h = omega arith
-
 module _ (t : Table) (s : State) (a : Accepted t s) where
   link-small : (l : ℕ) → l < 64 → link s l ≤ 2
   unfolding linkOk
@@ -89,7 +84,7 @@ module _ (t : Table) (s : State) (a : Accepted t s) where
   unfolding linksIn digit
   link-is l =
       by-cases (decLt l 64)
-      (λ h. rw (lt-ltb l 64 h) (sym (undigit-small (link s l) (link-small l h))))
+      (λ h. rw (lt-ltb l 64 h) (sym (digit-undigit (link s l) (link-small l h))))
       (λ h. rw (le-ltb l 64 (omega arith)) (List·getD-eq-default (s .links) 0 (omega (arith, a .sized .all-links))))
 
 -- THE LINKS of states whose values are in order, or grow
@@ -115,10 +110,7 @@ module _ (t : Table) (s z : State) (a : Accepted t s) (b : Accepted t z) where
       (h l)
 
 -- a link once set stays, along any run
-pub link-stays : {t : Table} {s : State} → Sized s → (G : Run t s) (l : ℕ) → (link s l ≡ 0) ⊎ (link (last G) l ≡ link s l)
-unfolding last
-link-stays size over l = inr refl
-link-stays {t} {s} size (more r m ok G) l =
-    let a = taken-accepted t s size r ok in
-    let (R, _, q) = to-steps size (more r m ok G) in
-    links-grow t s (last G) a (run-keeps a (more r m ok G)) (subst (λ (z : State). Grows (linksOf s) (linksOf z)) q (links-never-alter t (formed a) (one-source a) size (a .fits) R)) l
+pub link-stays : {t : Table} {s : State} → Accepted t s → (G : Run t s) (l : ℕ) → (link s l ≡ 0) ⊎ (link (last G) l ≡ link s l)
+link-stays {t} {s} a G l =
+    let (R, _, q) = to-steps a G in
+    links-grow t s (last G) a (run-keeps a G) (subst (λ (z : State). Grows (linksOf s) (linksOf z)) q (links-never-alter t (formed a) (one-source a) (a .sized) (a .fits) R)) l

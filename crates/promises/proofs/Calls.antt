@@ -1,9 +1,9 @@
 -- The calls with a state, where nothing is refused, answer what `moves` defines; and a refused one lists and takes nothing. Assumes nothing.
 use Prim.Native.Nat.{ℕ, _≤_}
 use mathlib.Core.Path.{_≡_, refl, sym, _∙_, ap, ap₂, subst}
-use mathlib.Core.Bool.{true, true≢false}
+use mathlib.Core.Bool.{true, false, true≢false}
 use mathlib.Core.Option.{some}
-use mathlib.Core.List.{List, _∷_, _++_, List·Memᴰ, List·Memᴰ·not-nil}
+use mathlib.Core.List.{List, [], _∷_, _++_, List·Memᴰ, List·Memᴰ·not-nil}
 use mathlib.Core.Logic.{_⊎_, inl, inr, by-cases, _↔_}
 use native.Mathlib.Omega.{arith}
 use native.Mathlib.Decide.{ℕ-discrete}
@@ -21,6 +21,7 @@ use Rattle.sheet.proofs.Accepted.{meets, well-formed, single-source}
 use Rattle.codec.specs.declared.SizeAnswer.{SizeAnswer}
 use Rattle.codec.specs.declared.SizeAnswer.the-variants.{Size}
 use Rattle.state.specs.declared.State.{State}
+use Rattle.state.specs.declared.StepKind.{StepKind}
 use Rattle.state.specs.declared.StepKind.the-variants.{Clean}
 use Rattle.moves.specs.Steps.{marksOf, Sized, nodes, turnAt, kindTurned, kindAt, hasStep, listedOf, steppedOf}
 use Rattle.moves.specs.Runs.{Taken}
@@ -35,7 +36,8 @@ use Rattle.engine.specs.declared.Stepped.{Stepped}
 use Rattle.engine.specs.ByValue.{takenAnswer}
 use Rattle.engine.proofs.Known.{kind-step, written-fits}
 use Rattle.sheet_engine.specs.Answers.{listAnswer, callChecks, listBuffer, kindAnswer, stepAnswer}
-use Rattle.sheet_engine.proofs.Steps.{table-first, state-then, kind-given, step-refused, step-given, list-refused, list-given}
+use Rattle.sheet_engine.specs.Values.{sizeValues, stepValues}
+use Rattle.sheet_engine.proofs.Steps.{table-first, state-then, kind-refused, kind-given, step-refused, step-given, list-refused, list-given}
 use Rattle.promises.specs.Calls.{Accepted, countOf, listedIn, listedRows, Run, over, more, taken, last}
 
 -- what acceptance of the table gives
@@ -51,32 +53,37 @@ drops-kind t s r q = rw q refl
 
 module _ (t : Table) (s : State) where
   -- the refusal of a call with a state
-  abbrev refusal : Refusal
+  abbrev pub refusal : Refusal
   refusal = checked refuse (refuse 0 0) (callChecks t s)
 
   abbrev ofState : Refusal
   ofState = checked refuse (refuse 0 0) (stateChecks (t .m) (t .n) (t .terms) s)
 
-  unrefused : Accepted t s → refusal .number ≡ 0
+  pub unrefused : Accepted t s → refusal .number ≡ 0
   unrefused a = ap (λ (r : Refusal). r .number) (sym (state-then t s (refusalOf t) refl (a .table) ofState refl) ∙ accepts-fitting t s ofState refl (a .mode) (a .fits))
 
-  accepts : Sized s → refusal .number ≡ 0 → Accepted t s
-  accepts size e =
-      by-cases (ℕ-discrete (refusalOf t .number) 0)
-      (λ z. let (m, f) = fits-accepted t s ofState refl (ap (λ (r : Refusal). r .number) (state-then t s (refusalOf t) refl z ofState refl) ∙ e) in record { table = z; mode = m; fits = f; sized = size })
-      (λ h. absurd (h (ap (λ (r : Refusal). r .number) (table-first t s (refusalOf t) refl h) ∙ e)))
+  -- a call with a state is not refused
+  module _ (e : refusal .number ≡ 0) where
+    table-accepted : refusalOf t .number ≡ 0
+    table-accepted =
+        by-cases (ℕ-discrete (refusalOf t .number) 0) (λ z. z)
+        (λ h. absurd (h (ap (λ (r : Refusal). r .number) (table-first t s (refusalOf t) refl h) ∙ e)))
 
-  -- an accepted call
-  module _ (a : Accepted t s) where
+    pub accepts : Sized s → Accepted t s
+    accepts size =
+        let z = table-accepted in
+        let (m, f) = fits-accepted t s ofState refl (ap (λ (r : Refusal). r .number) (state-then t s (refusalOf t) refl z ofState refl) ∙ e) in
+        record { table = z; mode = m; fits = f; sized = size }
+
     pub kind-is : (r : ℕ) → kindAnswer t s r ≡ kindAt t s r
-    kind-is r = sym (kind-given t s refusal refl r (kindAt t s r) (unrefused a) refl)
+    kind-is r = sym (kind-given t s refusal refl r (kindAt t s r) e refl)
 
     pub step-is : (r : ℕ) → stepAnswer t s r ≡ takenAnswer t s r
-    step-is r = sym (step-given t s refusal refl r (takenAnswer t s r) (unrefused a) refl)
+    step-is r = sym (step-given t s refusal refl r (takenAnswer t s r) e refl)
 
     pub list-answers : (lent : List ℕ) → length (listedOf t s) ≤ length lent → (listAnswer t s (length lent) ≡ Size (length (listedOf t s))) × (listBuffer t s lent ≡ listedOf t s ++ drop (length (listedOf t s)) lent)
     list-answers lent h =
-        let (c, b) = list-given t s refusal refl lent (listedOf t s ++ drop (length (listedOf t s)) lent) (length (listedOf t s)) (unrefused a) refl (written-fits (listedOf t s) lent _ h refl) h in
+        let (c, b) = list-given t s refusal refl lent (listedOf t s ++ drop (length (listedOf t s)) lent) (length (listedOf t s)) e refl (written-fits (listedOf t s) lent _ h refl) h in
         (sym c, sym b)
 
     -- "a step list needs one byte for each listed step and no more"
@@ -86,7 +93,7 @@ module _ (t : Table) (s : State) where
 
     pub few-listed : length (listedOf t s) ≤ 256
     unfolding listedOf
-    few-listed = omega (arith, listed-length (hasStep t s) 0 (t .n), formed a .few-terms)
+    few-listed = omega (arith, listed-length (hasStep t s) 0 (t .n), well-formed t (meets t table-accepted) .few-terms)
 
     pub rows-are : listedRows t s ≡ listedOf t s
     rows-are = listed-is (replicate 256 0) (omega (arith, few-listed, length-replicate {A = ℕ} 256 0))
@@ -111,65 +118,87 @@ module _ (t : Table) (s : State) where
     turned r m = let (u, q) = has-turn t s r (row-listed r .0 m) in at u q
       where
         at : (u : Turn) → turnAt t s r ≡ some u → ((turnAt t s r ≡ some takes) × (kindAnswer t s r ≡ Clean → ⊥)) ⊎ ((turnAt t s r ≡ some drops) × (kindAnswer t s r ≡ Clean))
-        at takes q = inl (q, λ e. takes-kind t s r q (sym (kind-is r) ∙ e))
+        at takes q = inl (q, λ z. takes-kind t s r q (sym (kind-is r) ∙ z))
         at drops q = inr (q, kind-is r ∙ drops-kind t s r q)
 
-    -- the state after a step is one of the table
+  -- a refused call lists and takes nothing
+  module _ (h : refusal .number ≡ 0 → ⊥) where
+    none-listed : (lent : List ℕ) → listedIn t s lent ≡ []
+    unfolding listedIn
+    none-listed lent = ap (λ (n : SizeAnswer). take (countOf n) (listBuffer t s lent)) (sym (list-refused t s refusal refl lent h .0))
+
+    none-taken : (r : ℕ) → stepAnswer t s r .ok ≡ false
+    none-taken r = ap (λ (k : Stepped). k .ok) (sym (step-refused t s refusal refl r h))
+
+  -- so what is told of a list or a step is told of both
+  pub listed-in : (C : List ℕ → Type 0) (lent : List ℕ) → C [] → (refusal .number ≡ 0 → C (listedIn t s lent)) → C (listedIn t s lent)
+  listed-in C lent nothing answered = by-cases (ℕ-discrete (refusal .number) 0) answered (λ h. subst C (sym (none-listed h lent)) nothing)
+
+  pub ok-listed : (r : ℕ) → (stepAnswer t s r .ok ≡ true) ↔ List·Memᴰ r (listedRows t s)
+  ok-listed r =
+      by-cases (ℕ-discrete (refusal .number) 0)
+      (λ e. ((λ ok. row-listed e r .1 (sym (ok-is e r) ∙ ok)), (λ m. ok-is e r ∙ row-listed e r .0 m)))
+      (λ h. ((λ ok. absurd (true≢false (sym ok ∙ none-taken h r))), (λ m. absurd (List·Memᴰ·not-nil (subst (List·Memᴰ r) (none-listed h (replicate 256 0)) m)))))
+
+  pub listed-any : (lent : List ℕ) → length (listedRows t s) ≤ length lent → listedIn t s lent ≡ listedRows t s
+  listed-any lent room =
+      by-cases (ℕ-discrete (refusal .number) 0)
+      (λ e. rw (rows-are e) (listed-is e lent (rw (rows-are e) at room)))
+      (λ h. none-listed h lent ∙ sym (none-listed h (replicate 256 0)))
+
+  -- of a state of the right size, an answer that is no refusal says that it is accepted
+  module _ (size : Sized s) where
+    told : (number : ℕ) → ((refusal .number ≡ 0 → ⊥) → refusal .number ≡ number) → number ≡ 0 → Accepted t s
+    told number same z = by-cases (ℕ-discrete (refusal .number) 0) (λ e. accepts e size) (λ h. absurd (h (same h ∙ z)))
+
+    pub list-unrefused : (lent : List ℕ) → 256 ≤ length lent → (sizeValues (listAnswer t s (length lent)) .refusal ≡ 0) ↔ Accepted t s
+    list-unrefused lent room = (
+      told _ (λ h. ap (λ (n : SizeAnswer). sizeValues n .refusal) (list-refused t s refusal refl lent h .0)),
+      λ a. let e = unrefused a in ap (λ (n : SizeAnswer). sizeValues n .refusal) (list-answers e lent (omega (arith, few-listed e, room)) .0),
+    )
+
+    pub kind-unrefused : (r : ℕ) → stepValues (kindAnswer t s r) .refusal ≡ 0 → Accepted t s
+    kind-unrefused r = told _ (λ h. ap (λ (k : StepKind). stepValues k .refusal) (kind-refused t s refusal refl r h))
+
+    pub step-unrefused : (r : ℕ) → stepAnswer t s r .ok ≡ true → Accepted t s
+    step-unrefused r ok = by-cases (ℕ-discrete (refusal .number) 0) (λ e. accepts e size) (λ h. absurd (true≢false (sym ok ∙ none-taken h r)))
+
+  -- the state after a step is one of the table
+  module _ (a : Accepted t s) where
     pub stepped : (r : ℕ) → hasStep t s r ≡ true → Accepted t (steppedOf t s r)
     stepped r h =
         let (size, mode) = step-kept t (formed a) s (a .sized) r h in
         record { table = a .table; mode = subst (λ (m : ℕ). m ≤ 1) (sym mode) (a .mode); fits = fits-step t (formed a) (one-source a) s (a .sized) r h (a .fits); sized = size }
 
-  -- what is taken, or listed, is not refused
-  pub taken-accepted : Sized s → (r : ℕ) → stepAnswer t s r .ok ≡ true → Accepted t s
-  taken-accepted size r ok =
-      by-cases (ℕ-discrete (refusal .number) 0) (accepts size)
-      (λ h. absurd (true≢false (sym ok ∙ ap (λ (k : Stepped). k .ok) (sym (step-refused t s refusal refl r h)))))
-
-  pub listed-accepted : Sized s → (lent : List ℕ) (r : ℕ) → List·Memᴰ r (listedIn t s lent) → Accepted t s
-  unfolding listedIn
-  listed-accepted size lent r m =
-      by-cases (ℕ-discrete (refusal .number) 0) (accepts size)
-      (λ h. absurd (List·Memᴰ·not-nil (subst (λ (n : SizeAnswer). List·Memᴰ r (take (countOf n) (listBuffer t s lent))) (sym (list-refused t s refusal refl lent h .0)) m)))
-
-  pub taken-keeps : Sized s → (r : ℕ) → stepAnswer t s r .ok ≡ true → Accepted t (stepAnswer t s r .state)
-  taken-keeps size r ok =
-      let a = taken-accepted size r ok in
-      subst (Accepted t) (sym (state-is a r)) (stepped a r (sym (ok-is a r) ∙ ok))
+    pub taken-keeps : (r : ℕ) → stepAnswer t s r .ok ≡ true → Accepted t (stepAnswer t s r .state)
+    taken-keeps r ok = subst (Accepted t) (sym (state-is (unrefused a) r)) (stepped r (sym (ok-is (unrefused a) r) ∙ ok))
 
 -- A run of the calls is one of `moves`, with the same steps and the same state after it ...
-pub to-steps : {t : Table} {s : State} → Sized s → (G : Run t s) → (R : Steps t s) × (stepsTaken R ≡ taken G) × (lastState R ≡ last G)
+pub to-steps : {t : Table} {s : State} → Accepted t s → (G : Run t s) → (R : Steps t s) × (stepsTaken R ≡ taken G) × (lastState R ≡ last G)
 unfolding taken last stepsTaken lastState
-to-steps size over = (ended, refl, refl)
-to-steps {t} {s} size (more r m ok G) =
-    let a = taken-accepted t s size r ok in
-    let (R, p, q) = subst (λ (z : State). (R : Steps t z) × (stepsTaken R ≡ taken G) × (lastState R ≡ last G)) (state-is t s a r) (to-steps (taken-keeps t s size r ok .sized) G) in
-    (stepping r (sym (ok-is t s a r) ∙ ok) R, (λ i. record { row = r; kind = sym (answer-is t s a r) i } ∷ p i), q)
+to-steps a over = (ended, refl, refl)
+to-steps {t} {s} a (more r m ok G) =
+    let e = unrefused t s a in
+    let (R, p, q) = subst (λ (z : State). (R : Steps t z) × (stepsTaken R ≡ taken G) × (lastState R ≡ last G)) (state-is t s e r) (to-steps (taken-keeps t s a r ok) G) in
+    (stepping r (sym (ok-is t s e r) ∙ ok) R, (λ i. record { row = r; kind = sym (answer-is t s e r) i } ∷ p i), q)
 
 -- ... and the other way
 pub from-steps : {t : Table} {s : State} → Accepted t s → (R : Steps t s) → (G : Run t s) × (taken G ≡ stepsTaken R) × (last G ≡ lastState R)
 unfolding taken last stepsTaken lastState
 from-steps a ended = (over, refl, refl)
 from-steps {t} {s} a (stepping r h R) =
-    let (G, p, q) = subst (λ (z : State). (G : Run t z) × (taken G ≡ stepsTaken R) × (last G ≡ lastState R)) (sym (state-is t s a r)) (from-steps (stepped t s a r h) R) in
-    (more r (row-listed t s a r .1 h) (ok-is t s a r ∙ h) G, (λ i. record { row = r; kind = answer-is t s a r i } ∷ p i), q)
+    let e = unrefused t s a in
+    let (G, p, q) = subst (λ (z : State). (G : Run t z) × (taken G ≡ stepsTaken R) × (last G ≡ lastState R)) (sym (state-is t s e r)) (from-steps (stepped t s a r h) R) in
+    (more r (row-listed t s e r .1 h) (ok-is t s e r ∙ h) G, (λ i. record { row = r; kind = answer-is t s e r i } ∷ p i), q)
 
 -- a run leads to a state of the table
 pub run-keeps : {t : Table} {s : State} → Accepted t s → (G : Run t s) → Accepted t (last G)
 unfolding last
 run-keeps a over = a
-run-keeps {t} {s} a (more r m ok G) = run-keeps (taken-keeps t s (a .sized) r ok) G
-
-pub run-sized : {t : Table} {s : State} → Sized s → (G : Run t s) → Sized (last G)
-unfolding last
-run-sized size over = size
-run-sized {t} {s} size (more r m ok G) = run-sized (taken-keeps t s size r ok .sized) G
+run-keeps {t} {s} a (more r m ok G) = run-keeps (taken-keeps t s a r ok) G
 
 -- a run is no longer than its rows that wait
-pub run-short : {t : Table} {s : State} → Sized s → (G : Run t s) → length (taken G) ≤ waitingSteps (nodes t) (marksOf s) (t .n)
-unfolding taken
-run-short size over = omega arith
-run-short {t} {s} size (more r m ok G) =
-    let a = taken-accepted t s size r ok in
-    let (R, p, _) = to-steps size (more r m ok G) in
-    subst (λ (l : List Taken). length l ≤ waitingSteps (nodes t) (marksOf s) (t .n)) p (run-length t (formed a) size R)
+pub run-short : {t : Table} {s : State} → Accepted t s → (G : Run t s) → length (taken G) ≤ waitingSteps (nodes t) (marksOf s) (t .n)
+run-short {t} {s} a G =
+    let (R, p, _) = to-steps a G in
+    subst (λ (l : List Taken). length l ≤ waitingSteps (nodes t) (marksOf s) (t .n)) p (run-length t (formed a) (a .sized) R)

@@ -4,7 +4,13 @@ use mathlib.Core.Path.{_≡_, refl, sym, _∙_, ap, subst}
 use mathlib.Core.Bool.{Bool, true, false}
 use mathlib.Core.List.{List, List·Memᴰ, _++_}
 use mathlib.Core.Logic.{_⊎_, inl, inr, ⊎-elim, _↔_}
-use lib.ListN.{getD, length, take, drop}
+use native.Mathlib.Omega.{arith}
+use lib.ListN.{length, take, drop, replicate}
+use borrow.Fn.World.{ArgsD, ResD}
+use borrow.Fn.Kinds.{endedOf}
+use contract.Lifetimes.{Lfts}
+use denote.Triple.Clauses.{AtExit}
+use denote.Ref.{now}
 use Rattle.laws.specs.Tests.{Set}
 use Rattle.laws.specs.Checks.{Holds}
 use Rattle.laws.specs.Listed.{Rising}
@@ -43,9 +49,10 @@ use Rattle.codec.proofs.Judged.{accepted-is, is-accepted}
 use Rattle.codec.proofs.RoundTrip.{read-then-written, written-front, written-then-read, size-told, terms-handed, conditions-handed}
 use Rattle.codec.proofs.Parts.{part-whole}
 use Rattle.state.specs.declared.State.{State}
+use Rattle.state.specs.declared.StepKind.{StepKind}
 use Rattle.state.specs.declared.StepKind.the-variants.{Clean}
 use Rattle.state.specs.State.{sideMark}
-use Rattle.moves.specs.Steps.{marksOf, linksOf, Sized, leftIn, kindIn, hasStep, listedOf, steppedOf, isWaitingPick}
+use Rattle.moves.specs.Steps.{marksOf, linksOf, leftIn, kindIn, hasStep, listedOf, steppedOf, isWaitingPick}
 use Rattle.moves.specs.Fits.{held, clearOk, waitsFit, clearFit}
 use Rattle.moves.specs.Above.{Below, PickAbove}
 use Rattle.moves.proofs.Below.{held-said, waits-said}
@@ -55,16 +62,28 @@ use Rattle.moves.proofs.Decided.{row-marked, pick-decided}
 use Rattle.moves.proofs.Kept.{nothing-else as nothing-else-steps}
 use Rattle.engine.specs.declared.Stepped.{Stepped}
 use Rattle.engine.specs.ByValue.{takenAnswer}
-use Rattle.sheet_engine.specs.declared.VerdictAnswer.the-variants.{Pass, Fail}
+use Rattle.sheet_engine.specs.declared.VerdictAnswer.{VerdictAnswer}
 use Rattle.sheet_engine.specs.Answers.{verdictAnswer, startAnswer, callChecks, listAnswer, listBuffer, kindAnswer, notTaken, stepAnswer}
-use Rattle.sheet_engine.specs.Values.{FailsAt}
+use Rattle.sheet_engine.specs.Values.{verdictValues, FailsAt, sizeValues, stepValues}
+use Rattle.sheet_engine.proofs.read_sheet as read-sheet
+use Rattle.sheet_engine.proofs.read_sheet.Reads as read-sheet-reads
+use Rattle.sheet_engine.proofs.read_sheet.Kinds as read-sheet-kinds
+use Rattle.sheet_engine.proofs.list_steps as list-steps
+use Rattle.sheet_engine.proofs.list_steps.Reads as list-steps-reads
+use Rattle.sheet_engine.proofs.list_steps.Kinds as list-steps-kinds
+use Rattle.sheet_engine.proofs.step_kind as step-kind
+use Rattle.sheet_engine.proofs.step_kind.Reads as step-kind-reads
+use Rattle.sheet_engine.proofs.step_kind.Kinds as step-kind-kinds
+use Rattle.sheet_engine.proofs.take_step as take-step
+use Rattle.sheet_engine.proofs.take_step.Reads as take-step-reads
+use Rattle.sheet_engine.proofs.take_step.Kinds as take-step-kinds
 use Rattle.sheet_engine.proofs.Beyond.{cut-write-answer, cut-write-buffer, cut-verdict-answer, cut-start-answer, cut-list-answer, cut-list-buffer, cut-kind-answer, cut-step-answer}
 use Rattle.sheet_engine.proofs.Promises.{pass-answered, fail-answered, fail-values}
-use Rattle.promises.specs.Calls.{Accepted, SameAnswers, freshIn, link, listedIn, listedRows, next, Allowed, Run, taken}
-use Rattle.promises.proofs.Calls.{formed, one-source as one-source-in, kind-is, listed-is, rows-are, row-listed, ok-is, state-is, turned, taken-accepted, listed-accepted, taken-keeps, run-short}
+use Rattle.promises.specs.Calls.{Accepted, verdictIn, Passes, Fails, SameAnswers, freshIn, link, listedIn, listedRows, next, Allowed, Run, taken}
+use Rattle.promises.proofs.Calls.{formed, one-source as one-source-in, refusal, unrefused, kind-is, rows-are, row-listed, state-is, turned, listed-in, listed-any, ok-listed, list-unrefused, kind-unrefused, step-unrefused, taken-keeps, run-short}
 use Rattle.promises.proofs.Alike.{link-is}
 use Rattle.promises.proofs.Fresh.{fresh-accepted}
-use Rattle.promises.proofs.Verdict.{offending}
+use Rattle.promises.proofs.Verdict.{pass-told, fail-told, offending}
 
 -- THE SHEET. Its head is handed out exactly if 1 and 2 hold and the table of its parts is accepted.
 pub sheet-accepted : (s : List ℕ) (h : Head) → (readOf s ≡ sheet.Sheet h) ↔ (Holds (sheetSize (length s)) × Holds (contents s) × (refusalOf (tableIn s) ≡ refuse 0 0) × (h ≡ headOf s))
@@ -96,9 +115,15 @@ nothing-beyond t t′ e = record {
 pub nothing-beyond-written : (h : Head) (ts cs : List ℕ) → ((lent : ℕ) → writeOf h ts cs lent ≡ writeOf h (take (4 * h .n) ts) (take (4 * h .k) cs) lent) × ((out : List ℕ) → writtenOf h ts cs out ≡ writtenOf h (take (4 * h .n) ts) (take (4 * h .k) cs) out)
 nothing-beyond-written h ts cs = (cut-write-answer h ts cs, cut-write-buffer h ts cs)
 
--- "Reading an accepted sheet and writing it again gives its bytes"
-pub read-then-write : (s : List ℕ) (h : Head) → ((i : ℕ) → getD s i 0 < 256) → readOf s ≡ sheet.Sheet h → (out : List ℕ) → length s ≤ length out → (writeOf h (partOf s (termsOf s)) (partOf s (conditionsOf s)) (length out) ≡ size.Size (length s)) × (writtenOf h (partOf s (termsOf s)) (partOf s (conditionsOf s)) out ≡ s ++ drop (length s) out)
-read-then-write s h bytes e out room = rw (← part-whole s (termsOf s) (readOf s) refl h e, ← part-whole s (conditionsOf s) (readOf s) refl h e) (read-then-written s h bytes e out room)
+-- "Reading an accepted sheet and writing it again gives its bytes": a sheet of which `read_sheet` answers the head, by its contract
+module _ (κs : Lfts 1) (a : ArgsD read-sheet.signature κs) (z : AtExit (endedOf 1 read-sheet-kinds.ps read-sheet-kinds.r) κs) (h : Head) (read : read-sheet-reads.Post κs a (sheet.Sheet h) z) where
+  abbrev sheetRead : List ℕ
+  sheetRead = now (a .0)
+
+  pub read-then-write : (out : List ℕ) → length sheetRead ≤ length out → (writeOf h (partOf sheetRead (termsOf sheetRead)) (partOf sheetRead (conditionsOf sheetRead)) (length out) ≡ size.Size (length sheetRead)) × (writtenOf h (partOf sheetRead (termsOf sheetRead)) (partOf sheetRead (conditionsOf sheetRead)) out ≡ sheetRead ++ drop (length sheetRead) out)
+  read-then-write out room =
+      let e = sym (read .0) in
+      rw (← part-whole sheetRead (termsOf sheetRead) (readOf sheetRead) refl h e, ← part-whole sheetRead (conditionsOf sheetRead) (readOf sheetRead) refl h e) (read-then-written sheetRead h (read .1) e out room)
 
 -- "writing an accepted table and reading it gives that table": its head, its n term rows and its k condition rows
 module _ (h : Head) (ts cs : List ℕ) (accepted : refusalOf (tableOf h ts cs) .number ≡ 0) (out : List ℕ) (room : sizeOf h ≤ length out) where
@@ -148,29 +173,43 @@ single-source-typing t some five six =
     (λ seven. back (one seven), λ typed. check (to typed))
 
 -- THE VERDICT. "The sheet passes if the condition of every JOIN row passes" (R, condition 2)
-pub pass-exactly : (t : Table) → (verdictAnswer t ≡ Pass) ↔ ((refusalOf t .number ≡ 0) × SheetPasses (evalIn t) (rowAt (t .terms)) (t .n))
-pass-exactly = pass-answered
+pub pass-exactly : (t : Table) → Passes t ↔ ((refusalOf t .number ≡ 0) × SheetPasses (evalIn t) (rowAt (t .terms)) (t .n))
+pass-exactly t = ((λ p. pass-answered t .0 (pass-told t .0 p)), (λ s. pass-told t .1 (pass-answered t .1 s)))
 
 -- ""Fail" is given exactly if an offending pair A, B exists": a JOIN row's condition is true in B and not in A, and A is B with some false links unset
-pub fail-exactly : (t : Table) → ((j : ℕ) × (x : ℕ) × (l : ℕ) × (verdictAnswer t ≡ Fail j x l)) ↔ ((refusalOf t .number ≡ 0) × (j : ℕ) × (q : ℕ) × (c : ℕ) × (j < t .n) × (rowAt (t .terms) j ≡ PREFIX (join q) c) × (A : Links) × (B : Links) × (A ⊑ B) × (evalIn t q B ≡ True) × (evalIn t q A ≡ True → ⊥))
+pub fail-exactly : (t : Table) → Fails t ↔ ((refusalOf t .number ≡ 0) × (j : ℕ) × (q : ℕ) × (c : ℕ) × (j < t .n) × (rowAt (t .terms) j ≡ PREFIX (join q) c) × (A : Links) × (B : Links) × (A ⊑ B) × (evalIn t q B ≡ True) × (evalIn t q A ≡ True → ⊥))
 fail-exactly t = (
-  λ (j, x, l, v).
+  λ told.
+      let (j, x, l, v) = fail-told t .0 told in
       let f = fail-values t j x l v in
       let e = fail-answered t .0 (j, x, l, v) .0 in
       let (A, B, below, b, a) = offending t e f in
       (e, j, f .condition, f .child, f .inside, f .is-join, A, B, below, b, a),
-  λ (e, j, q, c, h, is, A, B, below, b, a). fail-answered t .1 (e, λ s. a (s j q c h is A B b below)),
+  λ (e, j, q, c, h, is, A, B, below, b, a). fail-told t .1 (fail-answered t .1 (e, λ s. a (s j q c h is A B b below))),
 )
 
--- "A failure names the lowest JOIN row that fails, a number and a link": the smallest number, and at it the lowest link
-pub fail-names : (t : Table) (j x l : ℕ) → verdictAnswer t ≡ Fail j x l → FailsAt t j x l
-fail-names = fail-values
+-- "A failure names the lowest JOIN row that fails, a number and a link": "the sum of value times 1, 3, 9 and so on", the smallest such number, and at it the lowest link
+pub fail-names : (t : Table) → Fails t → FailsAt t (verdictIn t .row) (verdictIn t .number) (verdictIn t .link)
+fail-names t told = let (j, x, l, v) = fail-told t .0 told in subst (λ (a : VerdictAnswer). FailsAt t (verdictValues a .row) (verdictValues a .number) (verdictValues a .link)) (sym v) (fail-values t j x l v)
 
--- STEPS. `start` hands out a state of the table, and a step keeps it so: no later call refuses it.
+-- STEPS. A call that is not refused tells by its contract that table and state are accepted; with room for 256 rows `list_steps` answers exactly then.
+module _ (κs : Lfts 3) (a : ArgsD list-steps.signature κs) (z : AtExit (endedOf 3 list-steps-kinds.ps list-steps-kinds.r) κs) (r : ResD list-steps.signature κs) (listed : list-steps-reads.Post κs a r z) where
+  pub list-accepts : 256 ≤ length (now (a .1 .1 .1 .1 .0)) → (sizeValues r .refusal ≡ 0) ↔ Accepted (tableOf (a .1 .0) (now (a .1 .1 .0)) (now (a .1 .1 .1 .0))) (a .0)
+  list-accepts room = rw (listed .0 .0) (list-unrefused _ (a .0) (listed .1) (now (a .1 .1 .1 .1 .0)) room)
+
+module _ (κs : Lfts 2) (a : ArgsD step-kind.signature κs) (z : AtExit (endedOf 2 step-kind-kinds.ps step-kind-kinds.r) κs) (r : ResD step-kind.signature κs) (asked : step-kind-reads.Post κs a r z) where
+  pub kind-accepts : stepValues r .refusal ≡ 0 → Accepted (tableOf (a .1 .0) (now (a .1 .1 .0)) (now (a .1 .1 .1 .0))) (a .0)
+  kind-accepts e = kind-unrefused _ (a .0) (asked .1) _ (ap (λ (k : StepKind). stepValues k .refusal) (sym (asked .0)) ∙ e)
+
+module _ (κs : Lfts 2) (a : ArgsD take-step.signature κs) (z : AtExit (endedOf 2 take-step-kinds.ps take-step-kinds.r) κs) (r : ResD take-step.signature κs) (took : take-step-reads.Post κs a r z) where
+  pub take-accepts : r .ok ≡ true → Accepted (tableOf (a .1 .0) (now (a .1 .1 .0)) (now (a .1 .1 .1 .0))) (a .0)
+  take-accepts ok = step-unrefused _ (a .0) (took .1) _ (ap (λ (k : Stepped). k .ok) (sym (took .0)) ∙ ok)
+
+-- `start` hands out a state of the table, and a step keeps it so: no later call refuses it.
 pub fresh-fits : (t : Table) → refusalOf t .number ≡ 0 → (mode : ℕ) → mode ≤ 1 → Accepted t (freshIn t mode)
 fresh-fits = fresh-accepted
 
-pub step-fits : (t : Table) (s : State) → Sized s → (row : ℕ) → stepAnswer t s row .ok ≡ true → Accepted t (next t s row)
+pub step-fits : (t : Table) (s : State) → Accepted t s → (row : ℕ) → stepAnswer t s row .ok ≡ true → Accepted t (next t s row)
 step-fits = taken-keeps
 
 -- (c) "every row below a waiting ACT, OUT or JOIN waits"; (d) "each link set by the remainder is unset"
@@ -188,62 +227,60 @@ pub out-is-set : (t : Table) → refusalOf t .number ≡ 0 → (s : State) (k : 
 out-is-set t e s k h = let tree = well-formed t (meets t e) .tree in row-said (t .terms) (t .n) (tree .kids) (tree .once) (marksOf s) k (tree .some-row) h (s .links)
 
 -- "The list of steps is in rising row order."
-pub listed-rises : (t : Table) (s : State) → Accepted t s → Rising (listedRows t s)
+pub listed-rises : (t : Table) (s : State) → Rising (listedRows t s)
 unfolding listedOf
-listed-rises t s a = subst Rising (sym (rows-are t s a)) (listed-rising (hasStep t s) 0 (t .n))
+listed-rises t s = listed-in t s Rising (replicate 256 0) (λ i j h k. absurd (omega arith)) (λ e. subst Rising (sym (rows-are t s e)) (listed-rising (hasStep t s) 0 (t .n)))
 
 -- "a step list needs one byte for each listed step and no more"
-pub listed-in-any : (t : Table) (s : State) → Accepted t s → (lent : List ℕ) → length (listedRows t s) ≤ length lent → listedIn t s lent ≡ listedRows t s
-listed-in-any t s a lent room = rw (rows-are t s a) (listed-is t s a lent (rw (rows-are t s a) at room))
+pub listed-in-any : (t : Table) (s : State) (lent : List ℕ) → length (listedRows t s) ≤ length lent → listedIn t s lent ≡ listedRows t s
+listed-in-any = listed-any
 
 -- `take_step` takes what `list_steps` lists, and answers what `step_kind` answers
-pub taken-listed : (t : Table) (s : State) → Sized s → (row : ℕ) → (stepAnswer t s row .ok ≡ true) ↔ List·Memᴰ row (listedRows t s)
-taken-listed t s size row = (
-  λ ok. let a = taken-accepted t s size row ok in row-listed t s a row .1 (sym (ok-is t s a row) ∙ ok),
-  λ m. let a = listed-accepted t s size _ row m in ok-is t s a row ∙ row-listed t s a row .0 m,
-)
+pub taken-listed : (t : Table) (s : State) (row : ℕ) → (stepAnswer t s row .ok ≡ true) ↔ List·Memᴰ row (listedRows t s)
+taken-listed = ok-listed
 
 pub taken-kind : (t : Table) (s : State) (row : ℕ) → stepAnswer t s row .answer ≡ kindAnswer t s row
 unfolding stepAnswer kindAnswer takenAnswer
 taken-kind t s row = checked-map (λ (k : Stepped). k .answer) (notTaken s) (takenAnswer t s row) (callChecks t s)
 
 -- a listed step, and the state after it
-module _ (t : Table) (s : State) (size : Sized s) (row : ℕ) (listed : List·Memᴰ row (listedRows t s)) where
+module _ (t : Table) (s : State) (accepted : Accepted t s) (row : ℕ) (listed : List·Memᴰ row (listedRows t s)) where
   abbrev after : State
   after = next t s row
 
-  accepted : Accepted t s
-  accepted = listed-accepted t s size _ row listed
+  free : refusal t s .number ≡ 0
+  free = unrefused t s accepted
 
   has : hasStep t s row ≡ true
-  has = row-listed t s accepted row .0 listed
+  has = row-listed t s free row .0 listed
 
   is : after ≡ steppedOf t s row
-  is = state-is t s accepted row
+  is = state-is t s free row
 
   -- "A listed step is one the rules allow": its row and its kind are those of a label of R, and R's rule leads to what is left after it, and to its links
   pub listed-allowed : (α : Label) × (row-of α ≡ row) × (kindIn α ≡ kindAnswer t s row) × Allowed t s α (leftIn t after) (linksOf after)
-  listed-allowed = rw (is, kind-is t s accepted row) (steps-allowed t (formed accepted) (one-source-in accepted) s size row has)
+  listed-allowed = rw (is, kind-is t s free row) (steps-allowed t (formed accepted) (one-source-in accepted) s (accepted .sized) row has)
 
   -- "ACT in front: passed." "OUT in front: passed". "JOIN in front with a true condition: passed". With a false condition "dropped".
   pub row-done : ((kindAnswer t s row ≡ Clean) × (marksOf after row ≡ 4)) ⊎ ((kindAnswer t s row ≡ Clean → ⊥) × (marksOf after row ≡ 1))
-  row-done = rw is (⊎-elim (λ (e, k). inr (k, row-marked t (formed accepted) s size row takes e)) (λ (e, k). inl (k, row-marked t (formed accepted) s size row drops e)) (turned t s accepted row listed))
+  row-done = rw is (⊎-elim (λ (e, k). inr (k, row-marked t (formed accepted) s (accepted .sized) row takes e)) (λ (e, k). inl (k, row-marked t (formed accepted) s (accepted .sized) row drops e)) (turned t s free row listed))
 
   -- "Each of these also decides every waiting PICK above it towards it": a waiting PICK k, with the row below its child c
   pub picks-decided : (kindAnswer t s row ≡ Clean → ⊥) → (k c : ℕ) (side : Bool) → k < t .n → isWaitingPick (rowAt (t .terms) k) (marksOf s k) ≡ true → Child (rowAt (t .terms) k) side c → rows (term (rowAt (t .terms)) (t .n) c) row ≡ true → marksOf after k ≡ sideMark side
-  picks-decided never k c side h waits child below = rw is (⊎-elim (λ (e, _). pick-decided t (formed accepted) s size k c side h waits child row below e) (λ (_, k). absurd (never k)) (turned t s accepted row listed))
+  picks-decided never k c side h waits child below = rw is (⊎-elim (λ (e, _). pick-decided t (formed accepted) s (accepted .sized) k c side h waits child row below e) (λ (_, k). absurd (never k)) (turned t s free row listed))
 
   -- "Nothing else changes": a mark that changes is the row's or that of a PICK above it, which a clean step does not decide; a link that changes was unset
   pub nothing-else : (after .mode ≡ s .mode) × ((k : ℕ) → (marksOf after k ≡ marksOf s k) ⊎ ((k ≡ row) ⊎ ((kindAnswer t s row ≡ Clean → ⊥) × (side : Bool) × PickAbove t s row k side × (marksOf after k ≡ sideMark side)))) × Grows (linksOf s) (linksOf after)
-  nothing-else = rw (is, kind-is t s accepted row) (nothing-else-steps t (formed accepted) (one-source-in accepted) size (accepted .fits) row has)
+  nothing-else = rw (is, kind-is t s free row) (nothing-else-steps t (formed accepted) (one-source-in accepted) (accepted .sized) (accepted .fits) row has)
 
 -- "and each allowed step is listed": at its row, with its kind, and taking it leads where R's rule leads
 pub allowed-listed : (t : Table) (s : State) → Accepted t s → (α : Label) (P : Process) (v : Links) → Allowed t s α P v → List·Memᴰ (row-of α) (listedRows t s) × (kindAnswer t s (row-of α) ≡ kindIn α) × (leftIn t (next t s (row-of α)) ≡ P) × (linksOf (next t s (row-of α)) ≡ v)
 allowed-listed t s a α P v rule =
     let l = allowed-steps t (formed a) s (a .sized) α P v rule in
-    let z = state-is t s a (row-of α) in
-    (row-listed t s a (row-of α) .1 (l .there), kind-is t s a (row-of α) ∙ l .kind, ap (leftIn t) z ∙ l .leaves, ap linksOf z ∙ l .sets)
+    let e = unrefused t s a in
+    let z = state-is t s e (row-of α) in
+    (row-listed t s e (row-of α) .1 (l .there), kind-is t s e (row-of α) ∙ l .kind, ap (leftIn t) z ∙ l .leaves, ap linksOf z ∙ l .sets)
 
 -- "From any fitting state a run has at most as many steps as there are waiting ACT, OUT and JOIN rows."
-pub run-bound : (t : Table) (s : State) → Sized s → (G : Run t s) → length (taken G) ≤ waitingSteps (rowAt (t .terms)) (marksOf s) (t .n)
-run-bound t s size G = run-short size G
+pub run-bound : (t : Table) (s : State) → Accepted t s → (G : Run t s) → length (taken G) ≤ waitingSteps (rowAt (t .terms)) (marksOf s) (t .n)
+run-bound t s a G = run-short a G

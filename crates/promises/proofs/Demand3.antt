@@ -6,19 +6,22 @@ use native.Mathlib.Omega.{arith}
 use Rattle.sheet.specs.Table.{Table}
 use Rattle.state.specs.declared.State.{State}
 use Rattle.state.specs.State.{freshOf}
-use Rattle.moves.specs.Steps.{Sized}
 use Rattle.moves.specs.Runs.{struck, rowsOf}
 use Rattle.moves.proofs.Runs.{plain-run}
 use Rattle.sheet_engine.specs.declared.VerdictAnswer.the-variants.{Pass}
 use Rattle.sheet_engine.specs.Answers.{verdictAnswer, startAnswer, started}
 use Rattle.sheet_engine.proofs.Promises.{pass-demand-3}
-use Rattle.promises.specs.Calls.{freshIn, link, listedSteps, Run, taken, last}
-use Rattle.promises.proofs.Calls.{formed, run-sized}
+use Rattle.promises.specs.Calls.{Accepted, Passes, freshIn, link, listedSteps, Run, taken, last}
+use Rattle.promises.proofs.Calls.{formed, run-keeps}
+use Rattle.promises.proofs.Verdict.{pass-told}
 use Rattle.promises.proofs.Alike.{same-listed, links-below, link-stays}
 use Rattle.promises.proofs.Fresh.{fresh-state, is-started, begun, run-of, passed, ends-accepted, ends-alike}
 
 -- "Take a sheet that is accepted and whose verdict is "pass", started fresh with cleaning and without": mode 1 is with cleaning, mode 0 without.
-module _ (t : Table) (pass : verdictAnswer t ≡ Pass) where
+module _ (t : Table) (verdict : Passes t) where
+  pass : verdictAnswer t ≡ Pass
+  pass = pass-told t .0 verdict
+
   pub both-start : (mode : ℕ) → mode ≤ 1 → startAnswer t mode ≡ started 0 0 (freshOf mode)
   both-start = is-started t (passed t pass)
 
@@ -50,6 +53,6 @@ module _ (t : Table) (pass : verdictAnswer t ≡ Pass) where
     pub links-differ : (l : ℕ) → (link (last G) l ≡ link (last H) l) ⊎ ((link (last G) l ≡ 0) × (link (last H) l ≡ 1))
     links-differ = links-below t (last G) (last H) (ends-accepted t pass 0 (omega arith) G) (ends-accepted t pass 1 (omega arith) H) (ends-alike t pass G H such .below)
 
--- "A link once set never alters": between any two points of a run, in either mode, whatever the table and the state that it starts from
-pub links-never-alter : (t : Table) (s : State) → Sized s → (G : Run t s) (K : Run t (last G)) (l : ℕ) → (link (last G) l ≡ 0) ⊎ (link (last K) l ≡ link (last G) l)
-links-never-alter t s size G K = link-stays (run-sized size G) K
+-- "A link once set never alters": between any two points of a run, in either mode, from any state that is accepted
+pub links-never-alter : (t : Table) (s : State) → Accepted t s → (G : Run t s) (K : Run t (last G)) (l : ℕ) → (link (last G) l ≡ 0) ⊎ (link (last K) l ≡ link (last G) l)
+links-never-alter t s a G K = link-stays (run-keeps a G) K

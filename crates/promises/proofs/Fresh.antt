@@ -34,7 +34,7 @@ module _ (t : Table) (accepted : refusalOf t .number ≡ 0) (mode : ℕ) (h : mo
 
   -- a run from there is one of `moves`, and the other way
   pub begun : (G : Run t (freshIn t mode)) → (R : Steps t (freshOf mode)) × (stepsTaken R ≡ taken G) × (lastState R ≡ last G)
-  begun G = subst (λ (z : State). (R : Steps t z) × (stepsTaken R ≡ taken G) × (lastState R ≡ last G)) is-fresh (to-steps (fresh-accepted .sized) G)
+  begun G = subst (λ (z : State). (R : Steps t z) × (stepsTaken R ≡ taken G) × (lastState R ≡ last G)) is-fresh (to-steps fresh-accepted G)
 
   pub run-of : (R : Steps t (freshOf mode)) → (G : Run t (freshIn t mode)) × (taken G ≡ stepsTaken R) × (last G ≡ lastState R)
   run-of R = subst (λ (z : State). (G : Run t z) × (taken G ≡ stepsTaken R) × (last G ≡ lastState R)) (sym is-fresh) (from-steps fresh-state R)

@@ -17,13 +17,24 @@ use Rattle.moves.specs.Steps.{modeOf, linksOf, Sized, leftIn}
 use Rattle.moves.specs.Fits.{Fits}
 use Rattle.moves.specs.Runs.{Taken}
 use Rattle.sheet_engine.specs.Answers.{verdictAnswer, startAnswer, listAnswer, listBuffer, kindAnswer, stepAnswer}
+use Rattle.sheet_engine.specs.Values.{VerdictValues, verdictValues}
 
--- A table and a state that a call with a state does not refuse: neither 1 to 8, nor 9, nor 10. Of the right size is every state of the program.
+-- A table and a state that a call with a state does not refuse: neither 1 to 8, nor 9, nor 10. Whoever is answered knows it of them from the contract of the call (`list-accepts`, `kind-accepts`, `take-accepts`).
 pub record Accepted (t : Table) (s : State) : Type 0 where
   pub table : refusalOf t .number ≡ 0
   pub mode : s .mode ≤ 1
   pub fits : Fits t s
   pub sized : Sized s
+
+-- A verdict, by document 01's number and values for it: the sheet is accepted and passes, or it fails.
+abbrev pub verdictIn : Table → VerdictValues
+verdictIn t = verdictValues (verdictAnswer t)
+
+abbrev pub Passes : Table → Type 0
+Passes t = (verdictIn t .refusal ≡ 0) × (verdictIn t .fails ≡ 0)
+
+abbrev pub Fails : Table → Type 0
+Fails t = verdictIn t .fails ≡ 1
 
 -- Every call answers alike for two tables.
 pub record SameAnswers (t t′ : Table) : Type 0 where
