@@ -87,6 +87,10 @@ both-answered refused good refused′ good′ cs =
     (λ (n, p, f). inr (n, p, f, (λ i. (first-fails refused good f i, first-fails refused′ good′ f i))))
     (either cs)
 
+-- ... and what is made of one
+pub map-answered : {A B : Type 0} (f : A → B) {refused : ℕ → ℕ → A} {good : A} {cs : List Check} {a : A} → Answered refused good cs a → Answered (λ n p. f (refused n p)) (f good) cs (f a)
+map-answered f = ⊎-elim (λ (h, e). inl (h, ap f e)) (λ (n, p, g, e). inr (n, p, g, ap f e))
+
 -- a check that holds wherever the one before it does can be left out
 skipped : {A : Type 0} (refused : ℕ → ℕ → A) (good : A) (b c : Check) (ds : List Check) → (Holds b → Holds c) → checked refused good (b ∷ c ∷ ds) ≡ checked refused good (b ∷ ds)
 skipped refused good b c ds h =
