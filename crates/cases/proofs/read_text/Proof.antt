@@ -3,8 +3,8 @@ use native.Mathlib.Omega.{arith}
 use lib.ListN.{length-append, drop}
 use lib.Seq.{length-take-le}
 use borrow.Author.Needs.{needs}
-use Rattle.run_cases.proofs.read_text.Statement.{statement}
-use Rattle.run_cases.proofs.read_text.Tie as tie
+use Rattle.cases.proofs.read_text.Statement.{statement}
+use Rattle.cases.proofs.read_text.Tie as tie
 
 returns : tie.Need-returns
 returns c = search needs

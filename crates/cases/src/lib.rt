@@ -1,0 +1,158 @@
+// The fields of a case, read from its file one after the other. A case is the length of the input (4 bytes), the input, the length of the output, the output; of a number's bytes the lower comes first.
+// How much is read depends on the file alone, never on what a call answers, so after a case that disagrees the next is read from where it begins.
+ghost use Prim.Native.Nat.{_<_};
+ghost use Rattle.io.specs.Counts.{Counts};
+use codec::SizeAnswer;
+use sheet::Head;
+use state::State;
+
+// The file has ended: no number of four bytes is this great.
+pub const END: usize = 4294967296;
+
+// More than the rows of any table take, and more than any case lends.
+pub const SPACE: usize = 8192;
+
+// The call, its argument, and how many bytes of buffer to lend.
+pub struct Asked {
+    pub call: u8,
+    pub argument: usize,
+    pub room: usize,
+}
+
+// The numbers of a table, and how many bytes of terms and of conditions are lent with it.
+pub struct Lent {
+    pub head: Head,
+    pub terms: usize,
+    pub conditions: usize,
+}
+
+pub fn wide(x: u8) -> usize
+    ensures { λ r. ⌜ r < 256 ⌝ }
+{
+    x as usize
+}
+
+// The next byte, or 0 at the end.
+pub fn byte(file: i32) -> u8 {
+    let mut b = [0; 1];
+    io::read_full(file, &mut b);
+    b[0]
+}
+
+// The next number of two bytes.
+pub fn two(file: i32) -> usize {
+    let mut b = [0; 2];
+    io::read_full(file, &mut b);
+    wide(b[0]) + 256 * wide(b[1])
+}
+
+// The next number of four bytes, or END at the end.
+pub fn four(file: i32) -> usize {
+    let mut b = [0; 4];
+    if io::read_full(file, &mut b) < 4 {
+        return END;
+    }
+    wide(b[0]) + 256 * (wide(b[1]) + 256 * (wide(b[2]) + 256 * wide(b[3])))
+}
+
+// The next text of that length, at the start of the buffer; nothing is read where it does not fit.
+pub fn read_text(file: i32, length: usize, text: &mut [u8]) -> usize
+    ensures { λ r. ⌜ Counts r (now (text .exit)) ⌝ }
+{
+    if text.len() < length {
+        return 0;
+    }
+    io::read_full(file, &mut text[..length])
+}
+
+pub fn read_asked(file: i32) -> Asked {
+    let call = byte(file);
+    let argument = four(file);
+    let room = four(file);
+    Asked {
+        call,
+        argument,
+        room,
+    }
+}
+
+// A state. Behind its mode the file has two counts, which no call answers.
+pub fn read_state(file: i32) -> State {
+    let mode = byte(file);
+    two(file);
+    let mut marks = [0; 256];
+    io::read_full(file, &mut marks);
+    let mut links = [0; 64];
+    io::read_full(file, &mut links);
+    State { mode, marks, links }
+}
+
+// A table up to its rows, which follow. Its form is 3, and it has no names.
+pub fn read_lent(file: i32) -> Lent {
+    let evaluation = byte(file);
+    let m = two(file);
+    let n = two(file);
+    let k = two(file);
+    byte(file);
+    let terms = two(file);
+    let conditions = two(file);
+    two(file);
+    Lent {
+        head: Head {
+            evaluation,
+            m,
+            n,
+            k,
+        },
+        terms,
+        conditions,
+    }
+}
+
+// The first bytes; all of them where they are fewer.
+pub fn first(s: &[u8], count: usize) -> &[u8] {
+    if s.len() < count {
+        return s;
+    }
+    &s[..count]
+}
+
+// That much of a buffer; all of it where it is shorter.
+pub fn lend(out: &mut [u8], room: usize) -> &mut [u8] {
+    if out.len() < room {
+        return out;
+    }
+    &mut out[..room]
+}
+
+pub fn same_state(a: State, b: State) -> bool {
+    let am = a.marks;
+    let bm = b.marks;
+    let al = a.links;
+    let bl = b.links;
+    (a.mode == b.mode) & check::same(&am, &bm) & check::same(&al, &bl)
+}
+
+// A lent buffer, beside the bytes of the case.
+fn buffer_agrees(file: i32, out: &[u8]) -> bool {
+    let mut expected = [0; SPACE];
+    let length = read_text(file, out.len(), &mut expected);
+    check::same(&expected[..length], out)
+}
+
+// Number, place, size and buffer, beside those of the case; all are there on refusal too.
+fn sized(file: i32, number: u8, place: usize, size: usize, out: &[u8]) -> bool {
+    let n = byte(file);
+    let p = four(file);
+    let s = four(file);
+    let buffer = buffer_agrees(file, out);
+    (n == number) & (p == place) & (s == size) & buffer
+}
+
+// The answer of a call that fills a lent buffer, with the buffer as the call left it.
+pub fn size_agrees(file: i32, answer: SizeAnswer, out: &[u8]) -> bool {
+    match answer {
+        SizeAnswer::Size(size) => sized(file, 0, 0, size, out),
+        SizeAnswer::Refused(number, place) => sized(file, number, place, 0, out),
+    }
+}

@@ -1,0 +1,114 @@
+// Cases of calls on a state: the list of steps, and a step by its kind and by what it leaves.
+use cases::Asked;
+use cases::byte;
+use cases::four;
+use sheet::Head;
+use state::State;
+use state::StepKind;
+
+// What a case tells of a step: number and place of its refusal; or 0 and 0, then 1 act, 2 set, 3 open or 4 clean, and two values.
+struct Told {
+    number: u8,
+    place: usize,
+    word: u8,
+    x: u8,
+    y: u8,
+}
+
+fn told_refused(number: u8, place: usize) -> Told {
+    Told {
+        number,
+        place,
+        word: 0,
+        x: 0,
+        y: 0,
+    }
+}
+
+fn told_step(word: u8, x: u8, y: u8) -> Told {
+    Told {
+        number: 0,
+        place: 0,
+        word,
+        x,
+        y,
+    }
+}
+
+fn told_kind(kind: StepKind) -> Told {
+    match kind {
+        StepKind::Act(activity) => told_step(1, activity, 0),
+        StepKind::Set(link, value) => told_step(2, link, value),
+        StepKind::Open => told_step(3, 0, 0),
+        StepKind::Clean => told_step(4, 0, 0),
+        StepKind::Refused(number, place) => told_refused(number, place),
+    }
+}
+
+fn read_told(file: i32) -> Told {
+    let number = byte(file);
+    let place = four(file);
+    if number != 0 {
+        return told_refused(number, place);
+    }
+    let word = byte(file);
+    let x = byte(file);
+    let y = byte(file);
+    told_step(word, x, y)
+}
+
+fn same_told(a: Told, b: Told) -> bool {
+    (a.number == b.number) & (a.place == b.place) & (a.word == b.word) & (a.x == b.x) & (a.y == b.y)
+}
+
+// The state that the step has to hand back: that of the case; where it is refused, the one that it was given.
+fn state_after(file: i32, number: u8, s: State) -> State {
+    if number != 0 {
+        return s;
+    }
+    cases::read_state(file)
+}
+
+// Asking for the kind of a step, and taking it, answer alike.
+fn step_agrees(file: i32, s: State, h: Head, ts: &[u8], cs: &[u8], row: usize) -> bool {
+    let expected = read_told(file);
+    let after = state_after(file, expected.number, s);
+    let kind = sheet_engine::step_kind(s, h, ts, cs, row);
+    let taken = sheet_engine::take_step(s, h, ts, cs, row);
+    let answer = taken.answer;
+    let state = taken.state;
+    same_told(told_kind(kind), expected)
+        & same_told(told_kind(answer), expected)
+        & cases::same_state(state, after)
+}
+
+fn list_agrees(file: i32, s: State, h: Head, ts: &[u8], cs: &[u8], room: usize) -> bool {
+    let mut buffer = [170; cases::SPACE];
+    let out = cases::lend(&mut buffer, room);
+    let answer = sheet_engine::list_steps(s, h, ts, cs, out);
+    cases::size_agrees(file, answer, out)
+}
+
+// Call 1 lists the steps, call 2 takes one.
+fn call_agrees(file: i32, asked: Asked, s: State, h: Head, ts: &[u8], cs: &[u8]) -> bool {
+    let call = asked.call;
+    match call {
+        1 => list_agrees(file, s, h, ts, cs, asked.room),
+        2 => step_agrees(file, s, h, ts, cs, asked.argument),
+        _ => false,
+    }
+}
+
+// The rest of a case, whose input begins here.
+pub fn agrees(file: i32) -> bool {
+    let asked = cases::read_asked(file);
+    let s = cases::read_state(file);
+    let lent = cases::read_lent(file);
+    let mut t = [0; cases::SPACE];
+    let terms = cases::read_text(file, lent.terms, &mut t);
+    let mut c = [0; cases::SPACE];
+    let conditions = cases::read_text(file, lent.conditions, &mut c);
+    // the length of the output
+    four(file);
+    call_agrees(file, asked, s, lent.head, &t[..terms], &c[..conditions])
+}
