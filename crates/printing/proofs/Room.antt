@@ -31,7 +31,7 @@ use Rattle.sheet_engine.specs.declared.VerdictAnswer.{VerdictAnswer}
 use Rattle.sheet_engine.specs.declared.VerdictAnswer.the-variants as verdict
 use Rattle.sheet_engine.specs.Answers.{verdictAnswer}
 use Rattle.promises.specs.Calls.{Accepted}
-use Rattle.promises.proofs.Calls.{formed, few-listed, stepped}
+use Rattle.promises.proofs.Calls.{formed, unrefused, few-listed, stepped}
 use Rattle.promises.proofs.Fresh.{fresh-state}
 use Rattle.lines.specs.Page.{page, added}
 use Rattle.lines.specs.Lines.{field, fields, feed, refusedWord, refusedLine, failWords, verdictLine, stepWord, actWord, setWord, openWord, cleanWord, namedLine, stepLine, letters, linksWord, linksLine, enabledWord, lastLine}
@@ -103,7 +103,7 @@ last-short (x ∷ xs) h = joined {xs = enabledWord} {ys = fields (x ∷ xs) ++ f
 
 end-short : (t : Table) (s : State) → Accepted t s → Short (endLines t s) 5455
 unfolding endLines
-end-short t s g = joined 71 5384 (links-short (t .m) (s .links) (formed g .few-links)) (last-short (listedOf t s) (few-listed t s g))
+end-short t s g = joined 71 5384 (links-short (t .m) (s .links) (formed g .few-links)) (last-short (listedOf t s) (few-listed t s (unrefused t s g)))
 
 -- the lines of the steps that a run takes
 steps-short : (t : Table) (s : State) (rows : List ℕ) → Accepted t s → (R : Run t s) × Short (stepLines t s rows) (74 * length (taken R) + 5455)

@@ -14,7 +14,7 @@ use Rattle.moves.specs.Steps.{kindAt, hasStep, steppedOf, listedOf}
 use Rattle.engine.specs.declared.Stepped.{Stepped}
 use Rattle.sheet_engine.specs.Answers.{listAnswer, listBuffer, stepAnswer}
 use Rattle.promises.specs.Calls.{Accepted, countOf}
-use Rattle.promises.proofs.Calls.{list-answers, few-listed, ok-is, answer-is, state-is, stepped}
+use Rattle.promises.proofs.Calls.{unrefused, list-answers, few-listed, ok-is, answer-is, state-is, stepped}
 use Rattle.lines.specs.Lines.{stepLine}
 use Rattle.lines.proofs.Pages.{next as next-of}
 use Rattle.printing.specs.Printed.{endLines, stepLines}
@@ -32,14 +32,14 @@ module _ (t : Table) (s : State) (a : Accepted t s) (lent : List ℕ) (long : le
   found = listedOf t s
 
   enough : length found ≤ length lent
-  enough = omega (arith, few-listed t s a, long)
+  enough = omega (arith, few-listed t s (unrefused t s a), long)
 
   module _ (rows : List ℕ) (count : ℕ) (told : size.Size count ≡ listAnswer t s (length lent)) (left : rows ≡ listBuffer t s lent) where
     count-is : count ≡ length found
-    count-is = ap countOf (told ∙ list-answers t s a lent enough .0)
+    count-is = ap countOf (told ∙ list-answers t s (unrefused t s a) lent enough .0)
 
     rows-are : rows ≡ found ++ drop (length found) lent
-    rows-are = left ∙ list-answers t s a lent enough .1
+    rows-are = left ∙ list-answers t s (unrefused t s a) lent enough .1
 
     pub list-lies : count ≤ length rows
     list-lies = let e : length rows ≡ length found + length (drop (length found) lent) = ap length rows-are ∙ length-append found (drop (length found) lent) in omega (arith, e, count-is)
@@ -48,7 +48,7 @@ module _ (t : Table) (s : State) (a : Accepted t s) (lent : List ℕ) (long : le
     list-part = ap (take count) rows-are ∙ take-at found (drop (length found) lent) count (sym count-is)
 
   pub list-unrefused : (n p : ℕ) → size.Refused n p ≡ listAnswer t s (length lent) → ⊥
-  list-unrefused n p told = size-unrefused _ n p (told ∙ list-answers t s a lent enough .0)
+  list-unrefused n p told = size-unrefused _ n p (told ∙ list-answers t s (unrefused t s a) lent enough .0)
 
 -- the next step's line, and what comes after it
 module _ (t : Table) (s : State) (a : Accepted t s) (rows : List ℕ) (i : ℕ) (inside : i < length rows) (next : Stepped) (told : next ≡ stepAnswer t s (getD rows i 0)) where
@@ -56,13 +56,13 @@ module _ (t : Table) (s : State) (a : Accepted t s) (rows : List ℕ) (i : ℕ) 
   r = getD rows i 0
 
   ok : next .ok ≡ hasStep t s r
-  ok = ap (λ (z : Stepped). z .ok) told ∙ ok-is t s a r
+  ok = ap (λ (z : Stepped). z .ok) told ∙ ok-is t s (unrefused t s a) r
 
   answer : next .answer ≡ kindAt t s r
-  answer = ap (λ (z : Stepped). z .answer) told ∙ answer-is t s a r
+  answer = ap (λ (z : Stepped). z .answer) told ∙ answer-is t s (unrefused t s a) r
 
   state : next .state ≡ steppedOf t s r
-  state = ap (λ (z : Stepped). z .state) told ∙ state-is t s a r
+  state = ap (λ (z : Stepped). z .state) told ∙ state-is t s (unrefused t s a) r
 
   lines-are : stepLines t s (drop i rows) ≡ stepLine r (next .answer) ++ cond (next .ok) (stepLines t (next .state) (drop (i + 1) rows)) []
   unfolding stepLines

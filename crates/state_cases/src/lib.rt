@@ -69,7 +69,11 @@ fn state_after(file: i32, number: u8, s: State) -> State {
     cases::read_state(file)
 }
 
-// Asking for the kind of a step, and taking it, answer alike.
+fn left_agrees(answer: StepKind, state: State, expected: Told, after: State) -> bool {
+    same_told(told_kind(answer), expected) & cases::same_state(state, after)
+}
+
+// Asking for the kind of a step, taking it, and taking it on a lent record answer alike.
 fn step_agrees(file: i32, s: State, h: Head, ts: &[u8], cs: &[u8], row: usize) -> bool {
     let expected = read_told(file);
     let after = state_after(file, expected.number, s);
@@ -77,9 +81,12 @@ fn step_agrees(file: i32, s: State, h: Head, ts: &[u8], cs: &[u8], row: usize) -
     let taken = sheet_engine::take_step(s, h, ts, cs, row);
     let answer = taken.answer;
     let state = taken.state;
+    let placed = lent::step_lent(s, h, ts, cs, row);
+    let told = placed.answer;
+    let record = placed.state;
     same_told(told_kind(kind), expected)
-        & same_told(told_kind(answer), expected)
-        & cases::same_state(state, after)
+        & left_agrees(answer, state, expected, after)
+        & left_agrees(told, record, expected, after)
 }
 
 fn list_agrees(file: i32, s: State, h: Head, ts: &[u8], cs: &[u8], room: usize) -> bool {

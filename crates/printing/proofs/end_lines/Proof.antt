@@ -28,10 +28,10 @@ enum-known-count : tie.Need-enum-known-count
 enum-known-count c = search needs
 
 array-share-prefix-rows : tie.Need-array-share-prefix-rows
-array-share-prefix-rows c = list-lies _ _ (c .before .before .before .before .before .before .before .before .before .before .before .before .before .before .before .before .pre) (replicate 256 0) refl _ _ (sym (c .before .before .count .given .1) ∙ c .before .before .before .before .before .list-steps .ensures .0) (c .before .before .before .before .before .list-steps .ensures .1)
+array-share-prefix-rows c = list-lies _ _ (c .before .before .before .before .before .before .before .before .before .before .before .before .before .before .before .before .pre) (replicate 256 0) refl _ _ (sym (c .before .before .count .given .1) ∙ c .before .before .before .before .before .list-steps .ensures .0 .0) (c .before .before .before .before .before .list-steps .ensures .0 .1)
 
 slice-aggregate-last-line : tie.Need-slice-aggregate-last-line
-slice-aggregate-last-line c = sym (length-take-le _ _ (list-lies _ _ (c .before .before .before .before .before .before .before .before .before .before .before .before .before .before .before .before .before .pre) (replicate 256 0) refl _ _ (sym (c .before .before .before .count .given .1) ∙ c .before .before .before .before .before .before .list-steps .ensures .0) (c .before .before .before .before .before .before .list-steps .ensures .1)))
+slice-aggregate-last-line c = sym (length-take-le _ _ (list-lies _ _ (c .before .before .before .before .before .before .before .before .before .before .before .before .before .before .before .before .before .pre) (replicate 256 0) refl _ _ (sym (c .before .before .before .count .given .1) ∙ c .before .before .before .before .before .before .list-steps .ensures .0 .0) (c .before .before .before .before .before .before .list-steps .ensures .0 .1)))
 
 last-line-requires : tie.Need-last-line-requires
 last-line-requires c κs = search needs
@@ -47,13 +47,13 @@ same-length c = search needs
 
 returns : tie.Need-returns
 unfolding endLines
-returns c = then _ _ _ _ _ (c .before .before .before .before .before .before .before .before .before .before .before .before .before .links-line .ensures) (c .before .before .last-line .ensures ∙ ap (added _) (ap lastLine (list-part _ _ (c .before .before .before .before .before .before .before .before .before .before .before .before .before .before .before .before .before .before .before .before .pre) (replicate 256 0) refl _ _ (sym (c .before .before .before .before .before .before .count .given .1) ∙ c .before .before .before .before .before .before .before .before .before .list-steps .ensures .0) (c .before .before .before .before .before .before .before .before .before .list-steps .ensures .1))))
+returns c = then _ _ _ _ _ (c .before .before .before .before .before .before .before .before .before .before .before .before .before .links-line .ensures) (c .before .before .last-line .ensures ∙ ap (added _) (ap lastLine (list-part _ _ (c .before .before .before .before .before .before .before .before .before .before .before .before .before .before .before .before .before .before .before .before .pre) (replicate 256 0) refl _ _ (sym (c .before .before .before .before .before .before .count .given .1) ∙ c .before .before .before .before .before .before .before .before .before .list-steps .ensures .0 .0) (c .before .before .before .before .before .before .before .before .before .list-steps .ensures .0 .1))))
 
 same-length-2 : tie.Need-same-length-2
 same-length-2 c = search needs
 
 returns-2 : tie.Need-returns-2
-returns-2 c = absurd (list-unrefused _ _ (c .before .before .before .before .before .before .before .before .before .before .before .before .before .before .before .before .before .before .before .pre) (replicate 256 0) refl _ _ (sym (c .before .before .before .before .before .number .given .1) ∙ c .before .before .before .before .before .before .before .before .list-steps .ensures .0))
+returns-2 c = absurd (list-unrefused _ _ (c .before .before .before .before .before .before .before .before .before .before .before .before .before .before .before .before .before .before .before .pre) (replicate 256 0) refl _ _ (sym (c .before .before .before .before .before .number .given .1) ∙ c .before .before .before .before .before .before .before .before .list-steps .ensures .0 .0))
 
 pub end-lines-spec : {M : Type 1} → statement M
 end-lines-spec =

@@ -30,13 +30,13 @@ same-length : tie.Need-same-length
 same-length c = search needs
 
 returns : tie.Need-returns
-returns c = c .before .before .run-lines .ensures ∙ ap (added _) (sheet-goes _ _ _ _ (c .before .before .before .before .before .before .before .before .before .read-sheet .ensures) _ _ _ _ (c .before .before .before .before .before .before .before .h .given .1) (c .before .before .before .before .before .terms-part .ensures) (c .before .before .before .before .conditions-part .ensures) refl)
+returns c = c .before .before .run-lines .ensures ∙ ap (added _) (sheet-goes _ _ _ _ (c .before .before .before .before .before .before .before .before .before .read-sheet .ensures .0) _ _ _ _ (c .before .before .before .before .before .before .before .h .given .1) (c .before .before .before .before .before .terms-part .ensures) (c .before .before .before .before .conditions-part .ensures) refl)
 
 same-length-2 : tie.Need-same-length-2
 same-length-2 c = search needs
 
 returns-2 : tie.Need-returns-2
-returns-2 c = c .before .before .refused-line .ensures ∙ ap (added _) (sheet-refused _ _ _ _ (c .before .before .before .before .before .before .before .read-sheet .ensures) _ _ (c .before .before .before .before .before .number .given .1))
+returns-2 c = c .before .before .refused-line .ensures ∙ ap (added _) (sheet-refused _ _ _ _ (c .before .before .before .before .before .before .before .read-sheet .ensures .0) _ _ (c .before .before .before .before .before .number .given .1))
 
 pub sheet-lines-spec : {M : Type 1} → statement M
 sheet-lines-spec =
