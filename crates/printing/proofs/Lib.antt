@@ -2,4 +2,4 @@ pub mod Runs
 pub mod Judging
 pub mod Room
 pub mod First
-pub mod Unique
+pub mod Promises
