@@ -1,7 +1,6 @@
 use native.Mathlib.Omega.{arith}
 use borrow.Author.Needs.{needs}
 use mathlib.Core.Path.{sym, ap, _∙_}
-use mathlib.Core.List.{[]}
 use Rattle.lines.specs.Page.{added}
 use Rattle.lines.proofs.Pages.{byte, then}
 use Rattle.lines.proofs.Decimal.{decimal-one, decimal-more}

@@ -1,22 +1,16 @@
 use borrow.Author.Needs.{needs}
 use Rattle.state.proofs.State.decide.Statement.{statement}
 use Rattle.state.proofs.State.decide.Tie as tie
-use Rattle.state.proofs.State.decide.Reads as reads
-use Rattle.state.proofs.State.decide.Lts as lts
 
--- src/lib.rt:57:13
 element-write-self : tie.Need-element-write-self
 element-write-self c = search needs
 
--- src/lib.rt:59:13
 element-write-self-2 : tie.Need-element-write-self-2
 element-write-self-2 c = search needs
 
--- src/lib.rt:52:5
 returns : tie.Need-returns
 returns c = simp (c .if1 .taken)
 
--- src/lib.rt:52:5
 returns-2 : tie.Need-returns-2
 returns-2 c = simp (c .if1 .left)
 
