@@ -1,119 +1,147 @@
--- Every output fits the buffer: a line has at most 76 bytes but for the last, and a run at most 256 steps. Assumes nothing.
-use mathlib.Core.Path.{_≡_, refl, sym, ap}
+-- Every output of an input of bytes fits the buffer: a verdict has at most 25 bytes, each of at most 256 steps 18, the links 71 and the last line 1,032. A refusal, which ends the output, is shorter than the last line, whatever its number and its place. Assumes nothing.
+use mathlib.Core.Path.{_≡_, refl, sym, ap, subst}
 use mathlib.Core.Bool.{Bool, true, false, cond}
+use mathlib.Core.Option.{some}
 use mathlib.Core.List.{List, [], _∷_, _++_}
-use Prim.Native.Nat.{ℕ, zero, suc, _+_, _*_, _≤_}
+use Prim.Native.Nat.{ℕ, zero, suc, _+_, _*_, _^_, _≤_, _<_}
+use native.Mathlib.Nat.{pow-le-pow-right, zero-lt-suc}
 use native.Mathlib.Omega.{arith}
 use lib.Dec.{eqb, ltb}
-use lib.ListN.{length, length-append, length-take, take}
+use lib.ListN.{length, take, drop}
 use lib.Seq.{length-take-le}
 use borrow.Author.Tests.{leb-true, ltb-false}
+use Rattle.laws.specs.Tests.{bit}
 use Rattle.laws.specs.Listed.{written}
 use Rattle.laws.specs.Sums.{sum, count}
 use Rattle.laws.specs.Checks.{Check, placeOf, checked, AllHold}
-use Rattle.laws.proofs.Tests.{cond-cases}
+use Rattle.laws.proofs.Tests.{cond-all, cond-cases}
+use Rattle.laws.proofs.Listed.{listed-under}
 use Rattle.laws.proofs.Checks.{all-hold, place-holds}
+use Rattle.calculus.specs.Process.{Prefix, act, out, join}
+use Rattle.calculus.specs.Places.{Turn, takes, drops}
+use Rattle.conditions.proofs.Numbers.{links-inside}
+use Rattle.steps.specs.Rows.{Row, NIL, PREFIX, BRANCH}
 use Rattle.steps.specs.InFront.{waitingStep, waitingSteps}
 use Rattle.sheet.specs.declared.Refusal.{Refusal}
-use Rattle.sheet.specs.Table.{Table}
+use Rattle.sheet.specs.Table.{Table, rowBy, rowAt}
 use Rattle.sheet.specs.Rules.{tableChecks, refuse, refusalOf}
-use Rattle.sheet.specs.Sheet.{tableIn, sheetChecks}
+use Rattle.sheet.specs.Sheet.{termsAt, numberAt, termsOf, tableIn, sheetChecks}
+use Rattle.sheet.specs.Accepted.{WellFormed}
+use Rattle.sheet.proofs.Accepted.{meets, well-formed, narrow-joins}
+use Rattle.sheet.proofs.Beyond.{meets-accepted}
+use Rattle.codec.specs.Answers.{Bytes}
 use Rattle.state.specs.declared.State.{State}
-use Rattle.state.specs.declared.StepKind.{StepKind}
-use Rattle.state.specs.declared.StepKind.the-variants as kind
 use Rattle.state.specs.State.{freshOf}
-use Rattle.moves.specs.Steps.{marksOf, nodes, kindAt, hasStep, steppedOf, listedOf}
+use Rattle.moves.specs.Steps.{marksOf, nodes, turnAt, kindOf, kindBy, kindTurned, kindAt, hasStep, steppedOf, listedOf}
 use Rattle.moves.specs.Fits.{modeCheck}
 use Rattle.moves.specs.Runs.{Run, over, taken}
 use Rattle.moves.specs.Runs as runs
+use Rattle.moves.proofs.Moves.{has-turn, turn-fronts, turn-parts}
 use Rattle.moves.proofs.Kept.{run-length}
-use Rattle.sheet_engine.specs.declared.VerdictAnswer.{VerdictAnswer}
-use Rattle.sheet_engine.specs.declared.VerdictAnswer.the-variants as verdict
-use Rattle.sheet_engine.specs.Answers.{verdictAnswer}
+use Rattle.verdict.specs.declared.Verdict.{Verdict}
+use Rattle.verdict.specs.declared.Verdict.the-variants as verdict
+use Rattle.verdict.specs.Verdict.{verdictOf}
+use Rattle.sheet_engine.specs.declared.VerdictAnswer.the-variants as answer
+use Rattle.sheet_engine.specs.Answers.{given, verdictAnswer}
+use Rattle.sheet_engine.proofs.Promises.{fail-values}
+use Rattle.sheet_engine.proofs.Steps.{no-kind}
 use Rattle.promises.specs.Calls.{Accepted}
 use Rattle.promises.proofs.Calls.{formed, unrefused, few-listed, stepped}
 use Rattle.promises.proofs.Fresh.{fresh-state}
 use Rattle.lines.specs.Page.{page, added}
-use Rattle.lines.specs.Lines.{field, fields, feed, refusedWord, refusedLine, failWords, verdictLine, stepWord, actWord, setWord, openWord, cleanWord, namedLine, stepLine, letters, linksWord, linksLine, enabledWord, lastLine}
-use Rattle.lines.proofs.Decimal.{decimal-short}
+use Rattle.lines.specs.Lines.{refusedLine, verdictLine, stepLine}
+use Rattle.lines.proofs.Lengths.{Short, joined, within, refused-short, pass-short, fail-short, Few, step-short, links-short, last-short}
 use Rattle.lines.proofs.Pages.{kept-length, added-all}
-use Rattle.printing.specs.Printed.{modeIn, sheetIn, rowsIn, complete, endLines, stepLines, runLines, sheetLines, printed}
+use Rattle.printing.specs.Printed.{modeIn, sizeIn, sheetIn, rowsIn, complete, endLines, stepLines, runLines, sheetLines, printed}
 
--- at most so many bytes
-record Short (xs : List ℕ) (n : ℕ) : Type 0 where
-  is : length xs ≤ n
+-- what the lines sum up to: the links and the last line, with the verdict and the steps before them
+abbrev ending : ℕ
+ending = 71 + 1032
 
-joined : {xs ys : List ℕ} (a b : ℕ) → Short xs a → Short ys b → Short (xs ++ ys) (a + b)
-joined {xs} {ys} a b g h = let e = length-append xs ys in record { is = omega (arith, e, g .is, h .is) }
+abbrev pub longest : ℕ
+longest = 25 + (256 * 18 + ending)
 
-within : {xs : List ℕ} (a b : ℕ) → a ≤ b → Short xs a → Short xs b
-within a b h g = record { is = omega (arith, h, g .is) }
+-- a part of bytes is bytes
+bytes-drop : (n : ℕ) (xs : List ℕ) → Bytes xs → Bytes (drop n xs)
+bytes-drop zero xs h = h
+bytes-drop (suc n) [] h = h
+bytes-drop (suc n) (x ∷ xs) h = bytes-drop n xs (λ i. h (suc i))
 
-field-short : (x : ℕ) → Short (field x) 21
-unfolding field
-field-short x = let h = decimal-short x in record { is = omega (arith, h) }
+bytes-take : (n : ℕ) (xs : List ℕ) → Bytes xs → Bytes (take n xs)
+bytes-take zero xs h i = omega arith
+bytes-take (suc n) [] h i = h i
+bytes-take (suc n) (x ∷ xs) h zero = h 0
+bytes-take (suc n) (x ∷ xs) h (suc i) = bytes-take n xs (λ j. h (suc j)) i
 
-feed-short : Short feed 1
-feed-short = record { is = omega arith }
-
-fields-short : (xs : List ℕ) → Short (fields xs) (21 * length xs)
-unfolding fields
-fields-short [] = record { is = omega arith }
-fields-short (x ∷ xs) = within _ _ (omega arith) (joined 21 (21 * length xs) (field-short x) (fields-short xs))
-
-refused-short : (n p : ℕ) → Short (refusedLine n p) 50
-unfolding refusedLine
-refused-short n p = joined {xs = refusedWord} 7 43 (record { is = omega arith }) (joined 21 22 (field-short n) (joined 21 1 (field-short p) feed-short))
-
-verdict-short : (v : VerdictAnswer) → Short (verdictLine v) 76
-unfolding verdictLine
-verdict-short verdict.Pass = record { is = omega arith }
-verdict-short (verdict.Fail row number link) = joined {xs = failWords} 12 64 (record { is = omega arith }) (joined 21 43 (field-short row) (joined 21 22 (field-short number) (joined 21 1 (field-short link) feed-short)))
-verdict-short (verdict.Refused n p) = within 50 76 (omega arith) (refused-short n p)
-
-named-short : (row : ℕ) (word xs : List ℕ) → length word ≤ 6 → length xs ≤ 2 → Short (namedLine row word xs) 74
-unfolding namedLine
-named-short row word xs g h = joined {xs = stepWord} 4 70 (record { is = omega arith }) (joined 21 49 (field-short row) (joined {xs = word} 6 43 (record { is = g }) (joined 42 1 (within (21 * length xs) 42 (omega (arith, h)) (fields-short xs)) feed-short)))
-
-step-short : (row : ℕ) (k : StepKind) → Short (stepLine row k) 74
-unfolding stepLine
-step-short row (kind.Act a) = named-short row actWord (a ∷ []) (omega arith) (omega arith)
-step-short row (kind.Set l v) = named-short row setWord (l ∷ (v ∷ [])) (omega arith) (omega arith)
-step-short row kind.Open = named-short row openWord [] (omega arith) (omega arith)
-step-short row kind.Clean = named-short row cleanWord [] (omega arith) (omega arith)
-step-short row (kind.Refused n p) = within 50 74 (omega arith) (refused-short n p)
-
-letters-length : (xs : List ℕ) → length (letters xs) ≡ length xs
-unfolding letters
-letters-length [] = refl
-letters-length (x ∷ xs) = ap suc (letters-length xs)
-
-links-short : (m : ℕ) (xs : List ℕ) → m ≤ 64 → Short (linksLine m xs) 71
-unfolding linksLine
-links-short m xs h = joined {xs = linksWord} 5 66 (record { is = omega arith }) (joined 65 1 (at (eqb m 0)) feed-short)
+-- THE VERDICT: eight links give numbers below 3 to the 8
+verdict-short : (t : Table) → refusalOf t .number ≡ 0 → Short (verdictLine (verdictAnswer t)) 25
+unfolding verdictAnswer given
+verdict-short t e = let q = meets-accepted answer.Refused (given (verdictOf t)) t (meets t e) in rw q (at (verdictOf t) q)
   where
-    at : (b : Bool) → Short (cond b [] (32 ∷ letters (take m xs))) 65
-    at true = record { is = omega arith }
-    at false = let e = letters-length (take m xs) in let f = length-take m xs in record { is = omega (arith, e, f, h) }
+    at : (v : Verdict) → verdictAnswer t ≡ given v → Short (verdictLine (given v)) 25
+    at verdict.Pass q = within 13 25 (omega arith) pass-short
+    at (verdict.Fail j x l) q =
+        let w = well-formed t (meets t e) in
+        let f = fail-values t j x l q in
+        let p : 3 ^ _ ≤ 3 ^ 8 = pow-le-pow-right (zero-lt-suc 2) (narrow-joins t (meets t e) j (f .condition) (f .child) (f .inside) (f .is-join)) in
+        let i = links-inside (t .m) _ l (f .offends .among) in
+        fail-short j x l (omega (arith, f .inside, w .few-terms)) (omega (arith, f .offends .small, p)) (omega (arith, i, w .few-links))
 
-last-short : (xs : List ℕ) → length xs ≤ 256 → Short (lastLine xs) 5384
-unfolding lastLine
-last-short [] h = record { is = omega arith }
-last-short (x ∷ xs) h = joined {xs = enabledWord} {ys = fields (x ∷ xs) ++ feed} 7 5377 (record { is = omega arith }) (joined 5376 1 (within (21 * length (x ∷ xs)) 5376 (omega (arith, h)) (fields-short (x ∷ xs))) feed-short)
+-- A STEP: the activity of an ACT row is a byte of the table
+abbrev ActByte : Row → Type 0
+ActByte NIL = Unit {0}
+ActByte (PREFIX (act a) c) = a < 256
+ActByte (PREFIX (out l b) c) = Unit {0}
+ActByte (PREFIX (join q) c) = Unit {0}
+ActByte (BRANCH κ p q) = Unit {0}
 
-end-short : (t : Table) (s : State) → Accepted t s → Short (endLines t s) 5455
-unfolding endLines
-end-short t s g = joined 71 5384 (links-short (t .m) (s .links) (formed g .few-links)) (last-short (listedOf t s) (few-listed t s (unrefused t s g)))
+row-act : (kind a b c : ℕ) → a < 256 → ActByte (rowBy kind a b c)
+unfolding rowBy
+row-act kind a b c h = cond-all ActByte (eqb kind 0) tt (cond-all ActByte (eqb kind 1) h (cond-all ActByte (eqb kind 2) tt (cond-all ActByte (eqb kind 3) tt (cond-all ActByte (eqb kind 4) tt (cond-all ActByte (eqb kind 5) tt tt)))))
+
+bit-few : (b : Bool) → bit b < 10
+bit-few true = omega arith
+bit-few false = omega arith
+
+module _ (t : Table) (w : WellFormed t) (bytes : Bytes (t .terms)) (s : State) (r : ℕ) (there : hasStep t s r ≡ true) where
+  inside : r < t .n
+  inside = let (u, e) = has-turn t s r there in turn-parts t s r u e .0
+
+  prefix-few : (π : Prefix) (c : ℕ) → nodes t r ≡ PREFIX π c → Few (kindOf π)
+  unfolding kindOf Few rowAt
+  prefix-few (act a) c p = let b : a < 256 = subst ActByte p (row-act _ _ _ _ (bytes (r * 4 + 1))) in omega (arith, b)
+  prefix-few (out l b) c p = (omega (arith, w .outs r l c b inside p, w .few-links), bit-few b)
+  prefix-few (join q) c p = tt
+
+  kind-few : Few (kindAt t s r)
+  unfolding kindAt kindTurned kindBy Few
+  kind-few = let (u, e) = has-turn t s r there in at u e
+    where
+      at : (u : Turn) → turnAt t s r ≡ some u → Few (kindAt t s r)
+      at takes e = let (_, π, c, p, _) = turn-fronts t s r takes e in rw (e, p) (prefix-few π c p)
+      at drops e = rw e tt
+
+  taken-short : Short (stepLine r (kindAt t s r)) 18
+  taken-short = step-short r (kindAt t s r) (omega (arith, inside, w .few-terms)) kind-few
+
+untaken-short : (t : Table) (s : State) (r : ℕ) → hasStep t s r ≡ false → Short (stepLine r (kindAt t s r)) 50
+unfolding stepLine
+untaken-short t s r e = rw (no-kind t s r e) (refused-short 11 r)
+
+-- THE END: the listed rows are below n
+end-short : (t : Table) (s : State) → Accepted t s → Short (endLines t s) ending
+unfolding endLines listedOf
+end-short t s g = joined 71 1032 (links-short (t .m) (s .links) (formed g .few-links)) (last-short (listedOf t s) (few-listed t s (unrefused t s g)) (λ x m. omega (arith, listed-under (hasStep t s) 0 (t .n) x m, formed g .few-terms)))
 
 -- the lines of the steps that a run takes
-steps-short : (t : Table) (s : State) (rows : List ℕ) → Accepted t s → (R : Run t s) × Short (stepLines t s rows) (74 * length (taken R) + 5455)
+steps-short : (t : Table) → Bytes (t .terms) → (s : State) (rows : List ℕ) → Accepted t s → (R : Run t s) × Short (stepLines t s rows) (length (taken R) * 18 + ending)
 unfolding stepLines taken
-steps-short t s [] g = (over, end-short t s g)
-steps-short t s (r ∷ rows) g = at (hasStep t s r) refl (λ e. steps-short t (steppedOf t s r) rows (stepped t s g r e))
+steps-short t b s [] g = (over, end-short t s g)
+steps-short t b s (r ∷ rows) g = at (hasStep t s r) refl (λ e. steps-short t b (steppedOf t s r) rows (stepped t s g r e))
   where
-    at : (b : Bool) → hasStep t s r ≡ b → (hasStep t s r ≡ true → (R : Run t (steppedOf t s r)) × Short (stepLines t (steppedOf t s r) rows) (74 * length (taken R) + 5455)) → (R : Run t s) × Short (stepLine r (kindAt t s r) ++ cond b (stepLines t (steppedOf t s r) rows) []) (74 * length (taken R) + 5455)
-    at true e more = let (R, h) = more e in (runs.take r e R, within _ _ (omega arith) (joined 74 (74 * length (taken R) + 5455) (step-short r (kindAt t s r)) h))
-    at false e more = (over, within _ _ (omega arith) (joined 74 0 (step-short r (kindAt t s r)) (record { is = omega arith })))
+    at : (b′ : Bool) → hasStep t s r ≡ b′ → (hasStep t s r ≡ true → (R : Run t (steppedOf t s r)) × Short (stepLines t (steppedOf t s r) rows) (length (taken R) * 18 + ending)) → (R : Run t s) × Short (stepLine r (kindAt t s r) ++ cond b′ (stepLines t (steppedOf t s r) rows) []) (length (taken R) * 18 + ending)
+    at true e more = let (R, h) = more e in (runs.take r e R, within _ _ (omega arith) (joined 18 (length (taken R) * 18 + ending) (taken-short t (formed g) b s r e) h))
+    at false e more = (over, within 50 ending (omega arith) (joined 50 0 (untaken-short t s r e) (record { is = omega arith })))
 
 pub count-few : (p : ℕ → Bool) (n : ℕ) → count p n ≤ n
 unfolding count sum
@@ -124,14 +152,14 @@ count-few p (suc n) = at (p n) (count-few p n)
     at true h = omega (arith, h)
     at false h = omega (arith, h)
 
-run-short : (t : Table) (mode : ℕ) (rows : List ℕ) → refusalOf t .number ≡ 0 → mode ≤ 1 → Short (runLines t mode rows) 24475
+run-short : (t : Table) → Bytes (t .terms) → (mode : ℕ) (rows : List ℕ) → refusalOf t .number ≡ 0 → mode ≤ 1 → Short (runLines t mode rows) longest
 unfolding runLines waitingSteps
-run-short t mode rows e m =
+run-short t b mode rows e m =
     let g = fresh-state t e mode m in
-    let (R, h) = steps-short t (freshOf mode) rows g in
+    let (R, h) = steps-short t b (freshOf mode) rows g in
     let l = run-length t (formed g) (g .sized) R in
     let c = count-few (λ r. waitingStep (nodes t r) (marksOf (freshOf mode) r)) (t .n) in
-    joined 76 24399 (verdict-short (verdictAnswer t)) (within (74 * length (taken R) + 5455) 24399 (omega (arith, l, c, formed g .few-terms)) h)
+    joined 25 (256 * 18 + ending) (verdict-short t e) (within (length (taken R) * 18 + ending) (256 * 18 + ending) (omega (arith, l, c, formed g .few-terms)) h)
 
 -- a property of the refusals, and of what is answered where no check fails
 pub checked-all : {A : Type 0} (P : A → Type 0) (answer : ℕ → ℕ → A) (good : A) (cs : List Check) → ((n p : ℕ) → P (answer n p)) → (AllHold cs → P good) → P (checked answer good cs)
@@ -145,25 +173,25 @@ unfolding AllHold
 split [] ds h = (tt, h)
 split (c ∷ cs) ds h = let (a, b) = split cs ds (h .1) in ((h .0, a), b)
 
-sheet-short : (mode : ℕ) (s rows : List ℕ) → Short (sheetLines mode s rows) 24475
-unfolding sheetLines AllHold refusalOf
-sheet-short mode s rows =
-    checked-all (λ (xs : List ℕ). Short xs 24475) refusedLine (runLines (tableIn s) mode rows) (sheetChecks s ++ (modeCheck mode ∷ []))
-    (λ n p. within 50 24475 (omega arith) (refused-short n p))
+sheet-short : (mode : ℕ) (s rows : List ℕ) → Bytes s → Short (sheetLines mode s rows) longest
+unfolding sheetLines AllHold refusalOf termsOf
+sheet-short mode s rows b =
+    checked-all (λ (xs : List ℕ). Short xs longest) refusedLine (runLines (tableIn s) mode rows) (sheetChecks s ++ (modeCheck mode ∷ []))
+    (λ n p. within 50 longest (omega arith) (refused-short n p))
     (λ h.
-    let (a, b) = split (sheetChecks s) (modeCheck mode ∷ []) h in
-    run-short (tableIn s) mode rows (ap (λ (r : Refusal). r .number) (all-hold refuse (refuse 0 0) (tableChecks (tableIn s)) (a .1 .1))) (leb-true mode 1 (b .0 mode (omega arith) (omega arith))))
+    let (a, d) = split (sheetChecks s) (modeCheck mode ∷ []) h in
+    run-short (tableIn s) (bytes-take (numberAt s 9) (drop termsAt s) (bytes-drop termsAt s b)) mode rows (ap (λ (r : Refusal). r .number) (all-hold refuse (refuse 0 0) (tableChecks (tableIn s)) (a .1 .1))) (leb-true mode 1 (d .0 mode (omega arith) (omega arith))))
 
-pub printed-short : (input : List ℕ) → length (printed input) ≤ 24576
-unfolding printed
-printed-short input =
-    within 24475 24576 (omega arith) (checked-all (λ (xs : List ℕ). Short xs 24475) refusedLine (sheetLines (modeIn input) (sheetIn input) (rowsIn input)) (complete input ∷ []) (λ n p. within 50 24475 (omega arith) (refused-short n p)) (λ h. sheet-short (modeIn input) (sheetIn input) (rowsIn input))) .is
+pub printed-short : (input : List ℕ) → Bytes input → length (printed input) ≤ longest
+unfolding printed sheetIn
+printed-short input b =
+    checked-all (λ (xs : List ℕ). Short xs longest) refusedLine (sheetLines (modeIn input) (sheetIn input) (rowsIn input)) (complete input ∷ []) (λ n p. within 50 longest (omega arith) (refused-short n p)) (λ h. sheet-short (modeIn input) (sheetIn input) (rowsIn input) (bytes-take (sizeIn input) (drop 3 input) (bytes-drop 3 input b))) .is
 
 -- what was printed is the whole
-pub printed-whole : (input b c : List ℕ) (e : ℕ) → 24576 ≤ length b → page c e ≡ added (page b 0) (printed input) → ((e ≡ length (printed input)) × (c ≡ written (printed input) b)) × ((e ≤ length c) × (e ≡ length (take e c)))
-printed-whole input b c e h k =
-    let (x, y) = added-all b e (printed input) c (let s = printed-short input in omega (arith, s, h)) k in
+pub printed-whole : (input b c : List ℕ) (e : ℕ) → Bytes input → longest ≤ length b → page c e ≡ added (page b 0) (printed input) → ((e ≡ length (printed input)) × (c ≡ written (printed input) b)) × ((e ≤ length c) × (e ≡ length (take e c)))
+printed-whole input b c e small h k =
+    let s = printed-short input small in
+    let (x, y) = added-all b e (printed input) c (omega (arith, s, h)) k in
     let l = kept-length b c 0 e (printed input) k in
-    let s = printed-short input in
     let w : e ≤ length c = omega (arith, s, x, l, h) in
     ((x, y), (w, sym (length-take-le e c w)))

@@ -16,6 +16,9 @@ use engine::Stepped;
 use sheet::Head;
 use state::State;
 
+// No output is longer: the verdict's line, 256 steps, the links, and 256 rows that have a step.
+pub const LONGEST: usize = 25 + 256 * 18 + 71 + 1032;
+
 // The links, and the rows that have a step.
 fn end_lines(out: &mut [u8], at: usize, s: State, h: Head, ts: &[u8], cs: &[u8]) -> usize
     requires { ⌜ Accepted (tableOf h (now ts) (now cs)) s ⌝ }
@@ -119,7 +122,7 @@ fn lines_of(input: &[u8], out: &mut [u8]) -> usize
 }
 
 // What is printed, for any input. The buffer holds every output. The second clause, which follows from the first, is what a caller needs to take the output as a part of the buffer.
-pub fn print(input: &[u8], out: &mut [u8; 24576]) -> usize
+pub fn print(input: &[u8], out: &mut [u8; LONGEST]) -> usize
     ensures { λ r. ⌜ (r ≡ length (printed (now (input .entry)))) × (now (out .exit) ≡ written (printed (now (input .entry))) (now (out .entry))) ⌝ }
     ensures { λ r. ⌜ (r ≤ length (now (out .exit))) × (r ≡ length (take r (now (out .exit)))) ⌝ }
 {

@@ -9,7 +9,7 @@ const STATES: u8 = 1;
 const TABLES: u8 = 2;
 
 fn prints(input: &[u8], expected: &[u8]) -> bool {
-    let mut out = [0; 24576];
+    let mut out = [0; printing::LONGEST];
     let length = printing::print(input, &mut out);
     check::same(&out[..length], expected)
 }
