@@ -4,3 +4,4 @@ pub mod Unique
 pub mod Steps
 pub mod Values
 pub mod Beyond
+pub mod Machine
