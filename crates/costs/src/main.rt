@@ -1,5 +1,5 @@
 // One call, or all but the call, for counting instructions: two runs that differ in the second letter differ by one call.
-// Standard input: r, p, j, w, v, s, l, k or t (read, terms part, judge, write, verdict, start, list, kind, step); 1 to make the call, 0 not to; the mode; the row asked for; the number of steps taken first, and their rows; the sheet. The answer is printed as three numbers of four hex digits, so that each costs the same.
+// Standard input: r, p, j, w, v, s, l, k, t or i (read, terms part, judge, write, verdict, start, list, kind, step, step on a lent record); 1 to make the call, 0 not to; the mode; the row asked for; the number of steps taken first, and their rows; the sheet. The answer is printed as three numbers of four hex digits, so that each costs the same.
 use codec::SheetAnswer;
 use codec::SizeAnswer;
 use libc::STDIN_FILENO;
@@ -45,19 +45,6 @@ fn judged_seen(h: Head, ts: &[u8], cs: &[u8]) -> Seen {
     refused_seen(r.number, r.place)
 }
 
-// The size, and the byte at a place.
-fn written_seen(h: Head, ts: &[u8], cs: &[u8], at: u8) -> Seen {
-    let mut out = [0; 2066];
-    match sheet_engine::write_sheet(h, ts, cs, &mut out) {
-        SizeAnswer::Size(size) => Seen {
-            a: size,
-            b: wide(out[at as usize]),
-            c: 0,
-        },
-        SizeAnswer::Refused(number, place) => refused_seen(number, place),
-    }
-}
-
 // Row, number and link of a failure; 0 for pass.
 fn verdict_seen(answer: VerdictAnswer) -> Seen {
     match answer {
@@ -71,12 +58,12 @@ fn verdict_seen(answer: VerdictAnswer) -> Seen {
     }
 }
 
-// The size of a list, and the row at a place of it.
-fn size_seen(answer: SizeAnswer, rows: [u8; 256], at: u8) -> Seen {
+// The size of a sheet or a list, and its byte at a place.
+fn size_seen(answer: SizeAnswer, out: &[u8; 2066], at: u8) -> Seen {
     match answer {
         SizeAnswer::Size(size) => Seen {
             a: size,
-            b: rows[at as usize] as usize,
+            b: wide(out[at as usize]),
             c: 0,
         },
         SizeAnswer::Refused(number, place) => refused_seen(number, place),
@@ -120,23 +107,40 @@ fn state_seen(s: State, at: u8) -> Seen {
     }
 }
 
-fn list_seen(s: State, h: Head, ts: &[u8], cs: &[u8], at: u8) -> Seen {
-    let mut rows = [0; 256];
-    let answer = sheet_engine::list_steps(s, h, ts, cs, &mut rows);
-    size_seen(answer, rows, at)
+fn written_seen(h: Head, ts: &[u8], cs: &[u8], at: u8, out: &mut [u8; 2066]) -> Seen {
+    let answer = sheet_engine::write_sheet(h, ts, cs, out);
+    size_seen(answer, out, at)
 }
 
-fn called(call: u8, s: State, h: Head, ts: &[u8], cs: &[u8], mode: u8, row: u8) -> Seen {
+fn list_seen(s: State, h: Head, ts: &[u8], cs: &[u8], at: u8, out: &mut [u8; 2066]) -> Seen {
+    let answer = sheet_engine::list_steps(s, h, ts, cs, out);
+    size_seen(answer, out, at)
+}
+
+fn called(
+    call: u8,
+    s: State,
+    h: Head,
+    ts: &[u8],
+    cs: &[u8],
+    mode: u8,
+    row: u8,
+    out: &mut [u8; 2066],
+) -> Seen {
     match call {
         b'j' => judged_seen(h, ts, cs),
-        b'w' => written_seen(h, ts, cs, row),
+        b'w' => written_seen(h, ts, cs, row, out),
         b'v' => verdict_seen(sheet_engine::give_verdict(h, ts, cs)),
         b's' => {
             let started = sheet_engine::start(h, ts, cs, mode);
             state_seen(started.state, row)
         }
-        b'l' => list_seen(s, h, ts, cs, row),
+        b'l' => list_seen(s, h, ts, cs, row, out),
         b'k' => kind_seen(sheet_engine::step_kind(s, h, ts, cs, row as usize)),
+        b'i' => {
+            let placed = lent::step_lent(s, h, ts, cs, row as usize);
+            state_seen(placed.state, row)
+        }
         _ => {
             let next = sheet_engine::take_step(s, h, ts, cs, row as usize);
             state_seen(next.state, row)
@@ -156,6 +160,7 @@ fn after(s: State, h: Head, ts: &[u8], cs: &[u8], rows: &[u8]) -> State {
     state
 }
 
+// The state is made and the buffer cleared in both runs, so that neither is counted with the call.
 fn answer(
     call: u8,
     made: bool,
@@ -168,8 +173,9 @@ fn answer(
 ) -> Seen {
     let started = sheet_engine::start(h, ts, cs, mode);
     let s = after(started.state, h, ts, cs, rows);
+    let mut out = [0; 2066];
     if made {
-        return called(call, s, h, ts, cs, mode, row);
+        return called(call, s, h, ts, cs, mode, row, &mut out);
     }
     state_seen(s, row)
 }
