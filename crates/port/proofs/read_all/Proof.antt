@@ -5,8 +5,8 @@ use native.Mathlib.Omega.{arith}
 use lib.ListN.{length, length-take, take, drop}
 use lib.Seq.{length-take-le}
 use borrow.Author.Needs.{needs}
-use Rattle.run_sheet.proofs.read_all.Statement.{statement}
-use Rattle.run_sheet.proofs.read_all.Tie as tie
+use Rattle.port.proofs.read_all.Statement.{statement}
+use Rattle.port.proofs.read_all.Tie as tie
 
 -- what is read into the rest of a buffer lies in it
 lies : (size count rest : ℕ) (xs : List ℕ) → size ≤ length xs → count ≤ rest → rest ≡ length (take (length xs - size) (drop size xs)) → size + count ≤ length xs
