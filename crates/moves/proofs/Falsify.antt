@@ -15,6 +15,7 @@ use Rattle.calculus.specs.Status.{Value, Unset, False, truth}
 use Rattle.calculus.proofs.Order.{true≢unset, false≢unset}
 use Rattle.calculus.specs.Places.{over, false-if, value-if}
 use Rattle.conditions.specs.Numbers.{digit, undigit}
+use Rattle.conditions.proofs.Numbers.{undigit-digit}
 use Rattle.steps.specs.Marks.{mark}
 use Rattle.evaluate.specs.Values.{linksIn}
 use Rattle.state.specs.declared.State.{State}
@@ -61,12 +62,6 @@ unset-zero xs l h e = undigit-zero (getD xs l 0) (sym (links-in xs l h) ∙ e)
 pub zero-unset : (xs : List ℕ) (l : ℕ) → getD xs l 0 ≡ 0 → linksIn xs l ≡ Unset
 unfolding linksIn undigit
 zero-unset xs l e = rw e (cond-all (λ (u : Value). u ≡ Unset) (ltb l 64) refl refl)
-
-undigit-digit : (u : Value) → undigit (digit u) ≡ u
-unfolding digit undigit
-undigit-digit Unset = refl
-undigit-digit False = refl
-undigit-digit Value.True = refl
 
 -- one link is set
 link-other : (xs : List ℕ) (l a k : ℕ) → (k ≡ l → ⊥) → linksIn (set xs l a) k ≡ linksIn xs k

@@ -36,7 +36,7 @@ marksOf s k = getD (s .marks) k 0
 abbrev pub linksOf : State → Links
 linksOf s = linksIn (s .links)
 
--- of the right size, as every state of the program is
+-- of the right size, which the contracts of the calls say of the state that each is handed
 pub record Sized (s : State) : Type 0 where
   pub all-marks : length (s .marks) ≡ 256
   pub all-links : length (s .links) ≡ 64

@@ -151,20 +151,23 @@ module _ (t : Table) (s : State) where
     told : (number : ℕ) → ((refusal .number ≡ 0 → ⊥) → refusal .number ≡ number) → number ≡ 0 → Accepted t s
     told number same z = by-cases (ℕ-discrete (refusal .number) 0) (λ e. accepts e size) (λ h. absurd (h (same h ∙ z)))
 
-    pub list-unrefused : (lent : List ℕ) → 256 ≤ length lent → (sizeValues (listAnswer t s (length lent)) .refusal ≡ 0) ↔ Accepted t s
-    list-unrefused lent room = (
-      told _ (λ h. ap (λ (n : SizeAnswer). sizeValues n .refusal) (list-refused t s refusal refl lent h .0)),
-      λ a. let e = unrefused a in ap (λ (n : SizeAnswer). sizeValues n .refusal) (list-answers e lent (omega (arith, few-listed e, room)) .0),
-    )
+    pub list-unrefused : (lent : List ℕ) → sizeValues (listAnswer t s (length lent)) .refusal ≡ 0 → Accepted t s
+    list-unrefused lent = told _ (λ h. ap (λ (n : SizeAnswer). sizeValues n .refusal) (list-refused t s refusal refl lent h .0))
 
     pub kind-unrefused : (r : ℕ) → stepValues (kindAnswer t s r) .refusal ≡ 0 → Accepted t s
     kind-unrefused r = told _ (λ h. ap (λ (k : StepKind). stepValues k .refusal) (kind-refused t s refusal refl r h))
 
-    pub step-unrefused : (r : ℕ) → stepAnswer t s r .ok ≡ true → Accepted t s
-    step-unrefused r ok = by-cases (ℕ-discrete (refusal .number) 0) (λ e. accepts e size) (λ h. absurd (true≢false (sym ok ∙ none-taken h r)))
+    pub step-unrefused : (r : ℕ) → stepValues (stepAnswer t s r .answer) .refusal ≡ 0 → Accepted t s
+    step-unrefused r = told _ (λ h. ap (λ (k : Stepped). stepValues (k .answer) .refusal) (step-refused t s refusal refl r h))
 
-  -- the state after a step is one of the table
+  -- of an accepted state a list is answered where there is room for 256 rows, and the state after a step is one of the table
   module _ (a : Accepted t s) where
+    pub accepted-listed : (lent : ℕ) → 256 ≤ lent → sizeValues (listAnswer t s lent) .refusal ≡ 0
+    accepted-listed lent room =
+        let e = unrefused a in
+        let (c, _) = list-answers e (replicate lent 0) (omega (arith, few-listed e, room, length-replicate {A = ℕ} lent 0)) in
+        ap (λ (n : SizeAnswer). sizeValues n .refusal) (ap (listAnswer t s) (sym (length-replicate {A = ℕ} lent 0)) ∙ c)
+
     pub stepped : (r : ℕ) → hasStep t s r ≡ true → Accepted t (steppedOf t s r)
     stepped r h =
         let (size, mode) = step-kept t (formed a) s (a .sized) r h in

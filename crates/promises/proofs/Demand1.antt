@@ -168,7 +168,7 @@ module _ {M : Type 1} (𝓤 : URA M) (H : Heap 𝓤) (A : Atoms 𝓤) (at-mem : 
 
   pub step-in-place-answers : (z : AtExit step-in-place.ended κs) (r : Res step-in-place.signature κs) → ent 𝓤 (step-in-place.clauses 𝓤 H A at-mem run κs a .ensures tt r z) (fact 𝓤 (Answered {A = StepKind × State} (λ number place. (kind.Refused number place, was)) (kindAt its-table was asked, steppedOf its-table was asked) (rowChecks its-table was asked) (r, now (z .0))))
   step-in-place-answers z r =
-      fact-mono 𝓤 _ _ (λ (told, left). subst (Answered {A = StepKind × State} _ _ (rowChecks its-table was asked)) (λ i. (sym told i, sym left i)) (map-answered (λ (x : Stepped). (x .answer, x .state)) (step-answered its-table was asked)))
+      fact-mono 𝓤 _ _ (λ (told, left, _). subst (Answered {A = StepKind × State} _ _ (rowChecks its-table was asked)) (λ i. (sym told i, sym left i)) (map-answered (λ (x : Stepped). (x .answer, x .state)) (step-answered its-table was asked)))
 
 -- "The checks run in the order of the numbers; a call skips those that do not concern it."
 abbrev numbers : List Check → List ℕ

@@ -186,7 +186,7 @@ pub fn take_step(s: State, h: Head, ts: &[u8], cs: &[u8], row: usize) -> Stepped
 
 // Taking a step on the caller's own state: the record is stored where a step was taken, else left as it was.
 pub fn step_in_place(state: &mut State, h: Head, ts: &[u8], cs: &[u8], row: usize) -> StepKind
-    ensures { λ r. ⌜ (r ≡ stepAnswer (tableOf h (now (ts .entry)) (now (cs .entry))) (now (state .entry)) row .answer) × (now (state .exit) ≡ stepAnswer (tableOf h (now (ts .entry)) (now (cs .entry))) (now (state .entry)) row .state) ⌝ }
+    ensures { λ r. ⌜ (r ≡ stepAnswer (tableOf h (now (ts .entry)) (now (cs .entry))) (now (state .entry)) row .answer) × (now (state .exit) ≡ stepAnswer (tableOf h (now (ts .entry)) (now (cs .entry))) (now (state .entry)) row .state) × Sized (now (state .entry)) ⌝ }
 {
     let next = take_step(*state, h, ts, cs, row);
     if next.ok {

@@ -44,6 +44,7 @@ use denote.Triple.Table.{entered, cited}
 use denote.Triple.Walked.{says, Stays, stay-none, stay-none-slice, goes-none-slice, walkOf, AllGo, goes-none, Walks, ends-at, walked, walk-meets}
 use denote.Exit.{yes}
 use Rattle.sheet.specs.Table.{tableOf}
+use Rattle.moves.specs.Steps.{Sized}
 use Rattle.sheet_engine.proofs.Machine.{state-val, kind-val, head-val, part}
 use Rattle.sheet_engine.specs.Answers.{stepAnswer}
 use Rattle.state.specs.declared.State.{State}
@@ -169,8 +170,8 @@ module _ {M : Type 1} (𝓤 : URA M) (H : Heap 𝓤) (A : Atoms 𝓤) (W : Given
         calls-at ! fm (Callee 𝓤 H A at-mem run) known (to-callee ν l₆ γ) (and-then ! (load ! (from ! (stop !)) (look ! 6 refl)) (and-then ! (load ! (from ! (stop !)) (look ! 17 refl)) (and-then ! (load ! (from ! (stop !)) (look ! 15 refl)) (and-then ! (load ! (from ! (stop !)) (look ! 13 refl)) (and-then ! (load ! (from ! (stop !)) (look ! 11 refl)) (no-more !)))))) (λ v.
         use1 W (later (some (λ (r : StepKind). ((‵ (flft (ν ∷ []) fullShare) ⊛ ‵ (flft κ q) ⊛ ‵ (flft κ1 q1) ⊛ ‵ ftrue) ⊛ ‵ (kinds.the-row .own r (v ∷ []))) ⊛ raw (ensured 𝓤 H A callee.ended (callee.clauses 𝓤 H A at-mem run) (ν ∷ [], (κ, (κ1, tt))) (ref l₆ γ, (h, (ts, (cs, (row, tt))))) tt r)))) (id⊢ 𝓤 _) $ await ! tt $ pick ! (λ r.
         -- what the callee ensures, at some last state
-        split ! $ move ! (1 ∷ []) $ use1 W (some (λ (ws : State × (Unit {0} × (Unit {0} × (Unit {0} × (Unit {0} × Unit {0}))))). ‵ (lasts callee.ended (ν ∷ [], (κ, (κ1, tt))) (ref l₆ γ, (h, (ts, (cs, (row, tt))))) ws) ⊛ raw (fact 𝓤 ((r ≡ want .answer) × (ws .0 ≡ want .state))))) (id⊢ 𝓤 _) $ pick ! (λ ws.
-        split ! $ move ! (1 ∷ []) $ heard ! ((r ≡ want .answer) × (ws .0 ≡ want .state)) (λ e. fsplit ! $ move ! (2 ∷ []) $ split ! $ move ! (1 ∷ []) $
+        split ! $ move ! (1 ∷ []) $ use1 W (some (λ (ws : State × (Unit {0} × (Unit {0} × (Unit {0} × (Unit {0} × Unit {0}))))). ‵ (lasts callee.ended (ν ∷ [], (κ, (κ1, tt))) (ref l₆ γ, (h, (ts, (cs, (row, tt))))) ws) ⊛ raw (fact 𝓤 ((r ≡ want .answer) × (ws .0 ≡ want .state) × Sized s)))) (id⊢ 𝓤 _) $ pick ! (λ ws.
+        split ! $ move ! (1 ∷ []) $ heard ! ((r ≡ want .answer) × (ws .0 ≡ want .state) × Sized s) (λ e. fsplit ! $ move ! (2 ∷ []) $ split ! $ move ! (1 ∷ []) $
         -- [what the answer owns; the tokens; the last value; …; cs; ts; the lender's part; _9; …; _8; …; _7; …; _6's end; _5; …; _0; …]
         peeks ! kinds.the-row (Is kinds.the-row) (shows 𝓤 H A kinds.the-row) r (v ∷ []) (λ is.
         land ! (from ! (stop !)) (init ! 11 refl (EL.lawful kinds.the-type kinds-laws.the-laws 𝓤 H A W tt .typed r _ is .0)) $ rewrite ! 11 (λ (u : Val). ‵ (fat fullShare kinds-laws.mir l₇ 0 u)) (ap only (EL.tells kinds.the-type kinds-laws.the-laws r _ is)) refl $
@@ -183,7 +184,7 @@ module _ {M : Type 1} (𝓤 : URA M) (H : Heap 𝓤) (A : Atoms 𝓤) (W : Given
         assigns ! (agg ! (and-then ! (load ! (from ! (stop !)) (look ! 9 refl)) (and-then ! (load ! (from ! (stop !)) (look ! 5 refl)) (no-more !)))) (from ! (stop !)) (init ! 23 refl (LL.lawful placed.the-type placed-laws.the-laws 𝓤 H A W .typed (out r (ws .0)) _ (out-is r (ws .0) (answer-is r v is) g) .0)) $
         returns ! (look ! 23 refl) $ forget ! 23 refl $ forget ! 21 refl $ forget ! 19 refl $ forget ! 17 refl $ forget ! 15 refl $ forget ! 13 refl $ forget ! 11 refl $ forget ! 9 refl $ forget ! 7 refl $ forget ! 5 refl $
         move ! (23 ∷ 24 ∷ []) $ free1 ! $ move ! (21 ∷ 22 ∷ []) $ free1 ! $ move ! (19 ∷ 20 ∷ []) $ free1 ! $ move ! (17 ∷ 18 ∷ []) $ free1 ! $ move ! (15 ∷ 16 ∷ []) $ free1 ! $ move ! (13 ∷ 14 ∷ []) $ free1 ! $ move ! (11 ∷ 12 ∷ []) $ free1 ! $ move ! (9 ∷ 10 ∷ []) $ free1 ! $ move ! (7 ∷ 8 ∷ []) $ free1 ! $ move ! (5 ∷ 6 ∷ []) $ free1 ! $ free0 ! $
-        keep ! (0 ∷ 4 ∷ 3 ∷ []) $ by ! (exits r (ws .0) (answer-is r v is) g e)))))))))))))))))))
+        keep ! (0 ∷ 4 ∷ 3 ∷ []) $ by ! (exits r (ws .0) (answer-is r v is) g (e .0, e .1))))))))))))))))))))
 
 module _ {M : Type 1} (𝓤 : URA M) (H : Heap 𝓤) (A : Atoms 𝓤) (W : Given 𝓤 H A) (at-mem : Memory → SProp 𝓤) (run : Routine → Fun 𝓤) where
   f-walks : (C : Calls 𝓤 H) (Λ : Loops 𝓤 H) → FmC 𝓤 H (W .laws) C → Triple 𝓤 (C #sheet-engine·step-in-place) (Callee 𝓤 H A at-mem run) → Walks 𝓤 H A f.ended stayed (WpFn 𝓤 H C Λ code.function) (f.clauses 𝓤 H A at-mem run)

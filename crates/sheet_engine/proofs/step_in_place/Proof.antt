@@ -16,7 +16,7 @@ use prog.Memory.{Memory}
 use prog.Routine.{Routine}
 use prog.Wp.{Env, Heap, Calls, Loops, WpFn, Tables}
 use ghost.Atoms.{Atoms, sem}
-use contract.Monad.{Fun, fact}
+use contract.Monad.{Fun, fact, factI, fact-use}
 use contract.Lifetimes.{AllOutlive}
 use contract.Running.{givenOf, tables, tablesOf}
 use types.Kit.{atRet, Given, ‵, raw, some, later, _⊛_, ⋆, _$_, _∵_, !, qed, by, move, keep, drop, use1, split, join, pick, rewrite, fsplit, fsplit3, fjoin, fjoin3, feqI, suffices, frame, await, done}
@@ -82,11 +82,14 @@ module _ {M : Type 1} (𝓤 : URA M) (H : Heap 𝓤) (A : Atoms 𝓤) (at-mem : 
   abbrev Callee : Contract 𝓤
   Callee = tripleOf 𝓤 H A callee.signature (callee.spec 𝓤 H A at-mem run)
 
-  did : (κ1 κ2 : Lft) (old : State) (h : Head) (ts : RefT (List ℕ)) (cs : RefT (List ℕ)) (row : ℕ) (r : Stepped) → ent 𝓤 (ensured 𝓤 H A callee.ended (callee.clauses 𝓤 H A at-mem run) (κ1, (κ2, tt)) (old, (h, (ts, (cs, (row, tt))))) tt r) (fact 𝓤 (r ≡ stepAnswer (tableOf h (ts .now) (cs .now)) old row))
-  did κ1 κ2 old h ts cs row r = exE 𝓤 _ (λ ws. via 𝓤 (sep 𝓤 (fact 𝓤 taken) (fact 𝓤 (Sized old))) (snd∗ 𝓤 (sem 𝓤 H A (lasts callee.ended (κ1, (κ2, tt)) (old, (h, (ts, (cs, (row, tt))))) ws)) (sep 𝓤 (fact 𝓤 taken) (fact 𝓤 (Sized old)))) (fst∗ 𝓤 (fact 𝓤 taken) (fact 𝓤 (Sized old))))
+  did : (κ1 κ2 : Lft) (old : State) (h : Head) (ts : RefT (List ℕ)) (cs : RefT (List ℕ)) (row : ℕ) (r : Stepped) → ent 𝓤 (ensured 𝓤 H A callee.ended (callee.clauses 𝓤 H A at-mem run) (κ1, (κ2, tt)) (old, (h, (ts, (cs, (row, tt))))) tt r) (fact 𝓤 ((r ≡ stepAnswer (tableOf h (ts .now) (cs .now)) old row) × Sized old))
+  did κ1 κ2 old h ts cs row r = exE 𝓤 _ (λ ws. via 𝓤 both (snd∗ 𝓤 (sem 𝓤 H A (lasts callee.ended (κ1, (κ2, tt)) (old, (h, (ts, (cs, (row, tt))))) ws)) both) (fact-use 𝓤 taken (fst∗ 𝓤 (fact 𝓤 taken) (fact 𝓤 (Sized old))) (λ e. fact-use 𝓤 (Sized old) (snd∗ 𝓤 (fact 𝓤 taken) (fact 𝓤 (Sized old))) (λ size. factI 𝓤 (taken × Sized old) both (e, size)))))
     where
       taken : Type 0
       taken = r ≡ stepAnswer (tableOf h (ts .now) (cs .now)) old row
+
+      both : SProp 𝓤
+      both = sep 𝓤 (fact 𝓤 taken) (fact 𝓤 (Sized old))
 
 module _ {M : Type 1} (𝓤 : URA M) (H : Heap 𝓤) (A : Atoms 𝓤) (W : Given 𝓤 H A) (at-mem : Memory → SProp 𝓤) (run : Routine → Fun 𝓤) (κ κ1 κ2 : Lft) (bounds : AllOutlive 3 (f.signature .outlives) (κ, (κ1, (κ2, tt)))) (q q1 q2 : Share) (b o : ℕ) (γ : GName) (old : State) (h : Head) (ts : RefT (List ℕ)) (cs : RefT (List ℕ)) (row : ℕ) (h-is : Is heads.the-row h (head-val h ∷ [])) (row-fits : row < 2 ^ 64) where
   abbrev x : Arg
@@ -123,7 +126,7 @@ module _ {M : Type 1} (𝓤 : URA M) (H : Heap 𝓤) (A : Atoms 𝓤) (W : Given
   goes-callee : ent 𝓤 (⋆ 𝓤 H A (‵ (states.the-row .own old (state-val old ∷ [])) ∷ ‵ Own-ts ∷ ‵ Own-cs ∷ (‵ (flft κ1 q1) ⊛ ‵ (flft κ2 q2) ⊛ ‵ ftrue) ∷ [])) (Callee 𝓤 H A at-mem run .pre to-callee)
   goes-callee = qed W (‵ (states.the-row .own old (state-val old ∷ [])) ∷ ‵ Own-ts ∷ ‵ Own-cs ∷ (‵ (flft κ1 q1) ⊛ ‵ (flft κ2 q2) ⊛ ‵ ftrue) ∷ []) ∵ nothing ! $ owned ! usize (Is usize) (uint-makes 𝓤 H A W w64) row _ (refl, row-fits) $ fjoin ! $ move ! (3 ∷ 0 ∷ []) $ fjoin ! $ move ! (2 ∷ 0 ∷ []) $ fjoin ! $ owned ! heads.the-row (Is heads.the-row) (LL.makes heads.the-type heads-laws.the-plain 𝓤 H A) h _ h-is $ fjoin ! $ move ! (1 ∷ 0 ∷ []) $ fjoin ! $ move ! (1 ∷ 0 ∷ []) $ join ! $ frame ! $ done !
 
-  exits : (a : StepKind) (z : State) → Is kinds.the-row a (kind-val a ∷ []) → (a ≡ want .answer) × (z ≡ want .state) → ent 𝓤 (⋆ 𝓤 H A (‵ (fobs γ (states.the-row .coded .code z)) ∷ ‵ (fbor κ (Body (mem states.the-row) b o γ)) ∷ ‵ (flft κ q) ∷ (‵ (flft κ1 q1) ⊛ ‵ (flft κ2 q2) ⊛ ‵ ftrue) ∷ ‵ Own-ts ∷ ‵ Own-cs ∷ [])) (Post (kind-val a))
+  exits : (a : StepKind) (z : State) → Is kinds.the-row a (kind-val a ∷ []) → (a ≡ want .answer) × (z ≡ want .state) × Sized old → ent 𝓤 (⋆ 𝓤 H A (‵ (fobs γ (states.the-row .coded .code z)) ∷ ‵ (fbor κ (Body (mem states.the-row) b o γ)) ∷ ‵ (flft κ q) ∷ (‵ (flft κ1 q1) ⊛ ‵ (flft κ2 q2) ⊛ ‵ ftrue) ∷ ‵ Own-ts ∷ ‵ Own-cs ∷ [])) (Post (kind-val a))
   exits a z is e =
       qed W (‵ (fobs γ (states.the-row .coded .code z)) ∷ ‵ (fbor κ (Body (mem states.the-row) b o γ)) ∷ ‵ (flft κ q) ∷ (‵ (flft κ1 q1) ⊛ ‵ (flft κ2 q2) ⊛ ‵ ftrue) ∷ ‵ Own-ts ∷ ‵ Own-cs ∷ []) ∵
       suffices ! _ (ends-at 𝓤 H A f.ended stayed (f.clauses 𝓤 H A at-mem run) W (((κ, (κ1, (κ2, tt))), (q, (q1, (q2, tt))), bounds, x, at), tt) (kind-val a) a (z, (tt, (tt, (tt, (tt, tt))))) (tt, (tt, (tt, (tt, (tt, tt)))))) $ says ! e $
@@ -147,7 +150,7 @@ module _ {M : Type 1} (𝓤 : URA M) (H : Heap 𝓤) (A : Atoms 𝓤) (W : Given
         move ! (23 ∷ []) $ use1 W (‵ Own-ts ⊛ ‵ Own-ts) (shr-slice-copy 𝓤 H A W (named 1) κ1 u8 .twice ts _) $ split ! $ move ! (25 ∷ []) $ use1 W (‵ Own-cs ⊛ ‵ Own-cs) (shr-slice-copy 𝓤 H A W (named 2) κ2 u8 .twice cs _) $ split ! $ owned ! states.the-row (Is states.the-row) (LL.makes states.the-type states-laws.the-plain 𝓤 H A) old _ g $ move ! (1 ∷ 28 ∷ []) $ join ! $ move ! (3 ∷ 0 ∷ []) $ join ! $ move ! (1 ∷ 0 ∷ []) $ join ! $ use1 W (raw (Callee 𝓤 H A at-mem run .pre to-callee)) goes-callee $
         calls-at ! fm (Callee 𝓤 H A at-mem run) known to-callee (and-then ! (load ! (from ! (stop !)) (look ! 10 refl)) (and-then ! (load ! (from ! (stop !)) (look ! 20 refl)) (and-then ! (load ! (from ! (stop !)) (look ! 18 refl)) (and-then ! (load ! (from ! (stop !)) (look ! 16 refl)) (and-then ! (load ! (from ! (stop !)) (look ! 14 refl)) (no-more !)))))) (λ v.
         use1 W (later (some (λ (r : Stepped). ((‵ (flft κ1 q1) ⊛ ‵ (flft κ2 q2) ⊛ ‵ ftrue) ⊛ ‵ (answers.the-row .own r (v ∷ []))) ⊛ raw (ensured 𝓤 H A callee.ended (callee.clauses 𝓤 H A at-mem run) (κ1, (κ2, tt)) (old, (h, (ts, (cs, (row, tt))))) tt r)))) (id⊢ 𝓤 _) $ await ! tt $ pick ! (λ r.
-        split ! $ move ! (1 ∷ []) $ use1 W (raw (fact 𝓤 (r ≡ want))) (did 𝓤 H A at-mem run κ1 κ2 old h ts cs row r) $ heard ! (r ≡ want) (λ e. split ! $ move ! (1 ∷ []) $
+        split ! $ move ! (1 ∷ []) $ use1 W (raw (fact 𝓤 ((r ≡ want) × Sized old))) (did 𝓤 H A at-mem run κ1 κ2 old h ts cs row r) $ heard ! ((r ≡ want) × Sized old) (λ (e, size). split ! $ move ! (1 ∷ []) $
         peeks ! answers.the-row (Is answers.the-row) (shows 𝓤 H A answers.the-row) r (v ∷ []) (λ is.
         land ! (from ! (stop !)) (init ! 13 refl (LL.lawful answers.the-type answers-laws.the-laws 𝓤 H A W .typed r _ is .0)) $ rewrite ! 13 (λ (u : Val). ‵ (fat fullShare answers-laws.mir l₆ 0 u)) (ap only (LL.tells answers.the-type answers-laws.the-laws r _ is)) refl $
         assigns ! (of-opd ! (load ! (from ! (fld ! refl (stop !))) (look-in ! 13 (sub ! 0 refl (whole !))))) (from ! (stop !)) (init ! 9 refl (tt, tt)) $
@@ -159,14 +162,14 @@ module _ {M : Type 1} (𝓤 : URA M) (H : Heap 𝓤) (A : Atoms 𝓤) (W : Given
         drop ! $ move ! (4 ∷ []) $ drop ! $ owned ! states.the-row (Is states.the-row) (LL.makes states.the-type states-laws.the-plain 𝓤 H A) (r .state) _ (state-is r _ is) $ move ! (4 ∷ 0 ∷ 5 ∷ 6 ∷ 7 ∷ []) $ closes ! tt states.the-row (r .state) (state-val (r .state) ∷ []) b o $
         returns ! (look ! 22 refl) $ forget ! 22 refl $ forget ! 20 refl $ forget ! 18 refl $ forget ! 16 refl $ forget ! 14 refl $ forget ! 12 refl $ forget ! 10 refl $ forget ! 8 refl $ forget ! 6 refl $
         move ! (22 ∷ 23 ∷ []) $ free1 ! $ move ! (20 ∷ 21 ∷ []) $ free1 ! $ move ! (18 ∷ 19 ∷ []) $ free1 ! $ move ! (16 ∷ 17 ∷ []) $ free1 ! $ move ! (14 ∷ 15 ∷ []) $ free1 ! $ move ! (12 ∷ 13 ∷ []) $ free1 ! $ move ! (10 ∷ 11 ∷ []) $ free1 ! $ move ! (8 ∷ 9 ∷ []) $ free1 ! $ move ! (6 ∷ 7 ∷ []) $ free1 ! $ free0 ! $
-        keep ! (0 ∷ 1 ∷ 2 ∷ 3 ∷ 5 ∷ 4 ∷ []) $ by ! (exits (r .answer) (r .state) (answer-is r _ is) (ap (λ (z : Stepped). z .answer) e, ap (λ (z : Stepped). z .state) e)))
+        keep ! (0 ∷ 1 ∷ 2 ∷ 3 ∷ 5 ∷ 4 ∷ []) $ by ! (exits (r .answer) (r .state) (answer-is r _ is) (ap (λ (z : Stepped). z .answer) e, ap (λ (z : Stepped). z .state) e, size)))
         -- refused: the state is as it was
         (λ off. skips ! $ exec ! C Λ (En l₀ l₁ l₂ l₃ l₄ l₅ l₆ l₇ l₈) mir.t-5 (atRet (En l₀ l₁ l₂ l₃ l₄ l₅ l₆ l₇ l₈) Post) $
         assigns ! (of-opd ! (load ! (from ! (fld ! refl (stop !))) (look-in ! 13 (sub ! 1 refl (whole !))))) (from ! (stop !)) (init ! 25 refl (EL.lawful kinds.the-type kinds-laws.the-laws 𝓤 H A W tt .typed (r .answer) _ (answer-is r _ is) .0)) $
         drop ! $ move ! (3 ∷ 4 ∷ 5 ∷ 6 ∷ 7 ∷ []) $ closes ! tt states.the-row old (state-val old ∷ []) b o $
         returns ! (look ! 22 refl) $ forget ! 22 refl $ forget ! 20 refl $ forget ! 18 refl $ forget ! 16 refl $ forget ! 14 refl $ forget ! 12 refl $ forget ! 10 refl $ forget ! 8 refl $ forget ! 6 refl $
         move ! (22 ∷ 23 ∷ []) $ free1 ! $ move ! (20 ∷ 21 ∷ []) $ free1 ! $ move ! (18 ∷ 19 ∷ []) $ free1 ! $ move ! (16 ∷ 17 ∷ []) $ free1 ! $ move ! (14 ∷ 15 ∷ []) $ free1 ! $ move ! (12 ∷ 13 ∷ []) $ free1 ! $ move ! (10 ∷ 11 ∷ []) $ free1 ! $ move ! (8 ∷ 9 ∷ []) $ free1 ! $ move ! (6 ∷ 7 ∷ []) $ free1 ! $ free0 ! $
-        keep ! (0 ∷ 1 ∷ 2 ∷ 3 ∷ 5 ∷ 4 ∷ []) $ by ! (exits (r .answer) old (answer-is r _ is) (ap (λ (z : Stepped). z .answer) e, sym (state-back (tableOf h (ts .now) (cs .now)) old row (not-taken r e off))))))))))))))))))))
+        keep ! (0 ∷ 1 ∷ 2 ∷ 3 ∷ 5 ∷ 4 ∷ []) $ by ! (exits (r .answer) old (answer-is r _ is) (ap (λ (z : Stepped). z .answer) e, sym (state-back (tableOf h (ts .now) (cs .now)) old row (not-taken r e off)), size))))))))))))))))))
 
 module _ {M : Type 1} (𝓤 : URA M) (H : Heap 𝓤) (A : Atoms 𝓤) (W : Given 𝓤 H A) (at-mem : Memory → SProp 𝓤) (run : Routine → Fun 𝓤) where
   f-walks : (C : Calls 𝓤 H) (Λ : Loops 𝓤 H) → FmC 𝓤 H (W .laws) C → Triple 𝓤 (C #sheet-engine·take-step) (Callee 𝓤 H A at-mem run) → Walks 𝓤 H A f.ended stayed (WpFn 𝓤 H C Λ code.function) (f.clauses 𝓤 H A at-mem run)
