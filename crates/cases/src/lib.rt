@@ -1,5 +1,5 @@
 // The fields of a case, read from its file one after the other. A case is the length of the input (4 bytes), the input, the length of the output, the output; of a number's bytes the lower comes first.
-// How much is read depends on the file alone, never on what a call answers, so after a case that disagrees the next is read from where it begins.
+// How much is read depends on the file alone, never on what a call answers; so, where every field fits its buffer, the next case is read from where it begins also after one that disagrees.
 ghost use Prim.Native.Nat.{_<_};
 ghost use Rattle.io.specs.Counts.{Counts};
 use codec::SizeAnswer;
@@ -20,7 +20,7 @@ pub struct Asked {
 }
 
 // The numbers of a table, and how many bytes of terms and of conditions are lent with it.
-pub struct Lent {
+pub struct Given {
     pub head: Head,
     pub terms: usize,
     pub conditions: usize,
@@ -76,10 +76,11 @@ pub fn read_asked(file: i32) -> Asked {
     }
 }
 
-// A state. Behind its mode the file has two counts, which no call answers.
+// A state. Behind its mode the file has two bytes that no state of this engine holds: they are passed over.
 pub fn read_state(file: i32) -> State {
     let mode = byte(file);
-    two(file);
+    byte(file);
+    byte(file);
     let mut marks = [0; 256];
     io::read_full(file, &mut marks);
     let mut links = [0; 64];
@@ -87,8 +88,8 @@ pub fn read_state(file: i32) -> State {
     State { mode, marks, links }
 }
 
-// A table up to its rows, which follow. Its form is 3, and it has no names.
-pub fn read_lent(file: i32) -> Lent {
+// A table up to its rows, which follow. Of a form (1 byte) and the length of names (2) this engine's tables know nothing: they are passed over.
+pub fn read_given(file: i32) -> Given {
     let evaluation = byte(file);
     let m = two(file);
     let n = two(file);
@@ -97,7 +98,7 @@ pub fn read_lent(file: i32) -> Lent {
     let terms = two(file);
     let conditions = two(file);
     two(file);
-    Lent {
+    Given {
         head: Head {
             evaluation,
             m,
@@ -141,7 +142,7 @@ fn buffer_agrees(file: i32, out: &[u8]) -> bool {
 }
 
 // Number, place, size and buffer, beside those of the case; all are there on refusal too.
-fn sized(file: i32, number: u8, place: usize, size: usize, out: &[u8]) -> bool {
+fn answered(file: i32, number: u8, place: usize, size: usize, out: &[u8]) -> bool {
     let n = byte(file);
     let p = four(file);
     let s = four(file);
@@ -152,7 +153,7 @@ fn sized(file: i32, number: u8, place: usize, size: usize, out: &[u8]) -> bool {
 // The answer of a call that fills a lent buffer, with the buffer as the call left it.
 pub fn size_agrees(file: i32, answer: SizeAnswer, out: &[u8]) -> bool {
     match answer {
-        SizeAnswer::Size(size) => sized(file, 0, 0, size, out),
-        SizeAnswer::Refused(number, place) => sized(file, number, place, 0, out),
+        SizeAnswer::Size(size) => answered(file, 0, 0, size, out),
+        SizeAnswer::Refused(number, place) => answered(file, number, place, 0, out),
     }
 }

@@ -1,12 +1,15 @@
 // The cases of data/: what the program prints, and what the calls answer, beside what has to be.
 use libc::STDOUT_FILENO;
 
+// More than any text of a case of the program.
+const TEXT: usize = 65792;
+
 // What answers an input: the program; the calls on a state; the calls on a table.
-const PROGRAM: u8 = 0;
-
-const STATES: u8 = 1;
-
-const TABLES: u8 = 2;
+enum Kind {
+    Program,
+    States,
+    Tables,
+}
 
 fn prints(input: &[u8], expected: &[u8]) -> bool {
     let mut out = [0; printing::LONGEST];
@@ -16,25 +19,24 @@ fn prints(input: &[u8], expected: &[u8]) -> bool {
 
 // The rest of a case of the program, whose input begins here.
 fn program_agrees(file: i32, given: usize) -> bool {
-    let mut input = [0; 65792];
+    let mut input = [0; TEXT];
     let read = cases::read_text(file, given, &mut input);
     let told = cases::four(file);
-    let mut expected = [0; 65792];
+    let mut expected = [0; TEXT];
     let length = cases::read_text(file, told, &mut expected);
     prints(&input[..read], &expected[..length])
 }
 
 // The next case: 1 where it agrees, 0 where not, 2 at the end.
-fn next_case(file: i32, kind: u8) -> u8 {
+fn next_case(file: i32, kind: Kind) -> u8 {
     let given = cases::four(file);
     if given == cases::END {
         return 2;
     }
     match kind {
-        PROGRAM => program_agrees(file, given) as u8,
-        STATES => state_cases::agrees(file) as u8,
-        TABLES => table_cases::agrees(file) as u8,
-        _ => 0,
+        Kind::Program => program_agrees(file, given) as u8,
+        Kind::States => state_cases::agrees(file) as u8,
+        Kind::Tables => table_cases::agrees(file) as u8,
     }
 }
 
@@ -45,7 +47,7 @@ fn say(agreed: u64, tried: u64) {
     io::write_all(STDOUT_FILENO, b" cases agree\n");
 }
 
-fn try_cases(file: i32, kind: u8) {
+fn try_cases(file: i32, kind: Kind) {
     let mut tried: u64 = 0;
     let mut agreed: u64 = 0;
     let mut case = next_case(file, kind);
@@ -61,15 +63,15 @@ fn try_cases(file: i32, kind: u8) {
     say(agreed, tried);
 }
 
-fn try_file(name: &[u8], path: &[u8], kind: u8) {
+fn try_file(name: &[u8], path: &[u8], kind: Kind) {
     io::write_all(STDOUT_FILENO, name);
     io::write_all(STDOUT_FILENO, b": ");
     try_cases(os::open_read(path), kind);
 }
 
 fn main() {
-    try_file(b"document 01", b"examples.cases", PROGRAM);
-    try_file(b"more", b"base.cases", PROGRAM);
-    try_file(b"states", b"states-base.cases", STATES);
-    try_file(b"tables", b"tables-base.cases", TABLES);
+    try_file(b"document 01", b"examples.cases", Kind::Program);
+    try_file(b"more", b"base.cases", Kind::Program);
+    try_file(b"states", b"states-base.cases", Kind::States);
+    try_file(b"tables", b"tables-base.cases", Kind::Tables);
 }

@@ -110,12 +110,12 @@ fn call_agrees(file: i32, asked: Asked, s: State, h: Head, ts: &[u8], cs: &[u8])
 pub fn agrees(file: i32) -> bool {
     let asked = cases::read_asked(file);
     let s = cases::read_state(file);
-    let lent = cases::read_lent(file);
+    let given = cases::read_given(file);
     let mut t = [0; cases::SPACE];
-    let terms = cases::read_text(file, lent.terms, &mut t);
+    let terms = cases::read_text(file, given.terms, &mut t);
     let mut c = [0; cases::SPACE];
-    let conditions = cases::read_text(file, lent.conditions, &mut c);
+    let conditions = cases::read_text(file, given.conditions, &mut c);
     // the length of the output
     four(file);
-    call_agrees(file, asked, s, lent.head, &t[..terms], &c[..conditions])
+    call_agrees(file, asked, s, given.head, &t[..terms], &c[..conditions])
 }

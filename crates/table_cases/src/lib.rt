@@ -105,12 +105,12 @@ fn write_agrees(file: i32, h: Head, ts: &[u8], cs: &[u8], room: usize) -> bool {
 // The rest of a case, whose input begins here.
 pub fn agrees(file: i32) -> bool {
     let asked = cases::read_asked(file);
-    let lent = cases::read_lent(file);
+    let given = cases::read_given(file);
     let mut t = [0; cases::SPACE];
-    let terms = cases::read_text(file, lent.terms, &mut t);
+    let terms = cases::read_text(file, given.terms, &mut t);
     let mut c = [0; cases::SPACE];
-    let conditions = cases::read_text(file, lent.conditions, &mut c);
+    let conditions = cases::read_text(file, given.conditions, &mut c);
     // the length of the output
     cases::four(file);
-    (asked.call == 1) & write_agrees(file, lent.head, &t[..terms], &c[..conditions], asked.room)
+    (asked.call == 1) & write_agrees(file, given.head, &t[..terms], &c[..conditions], asked.room)
 }
