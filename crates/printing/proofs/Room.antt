@@ -1,4 +1,4 @@
--- Every output of an input of bytes fits the buffer: a verdict has at most 25 bytes, each of at most 256 steps 18, the links 71 and the last line 1,032. A refusal, which ends the output, is shorter than the last line, whatever its number and its place. Assumes nothing.
+-- Every output of an input of bytes fits the buffer: a verdict has at most 25 bytes, each of at most 256 steps 18, the links 71 and the last line 1,032. A refusal, which ends the output, has at most 50, whatever its number and its place. Assumes nothing.
 use mathlib.Core.Path.{_≡_, refl, sym, ap, subst}
 use mathlib.Core.Bool.{Bool, true, false, cond}
 use mathlib.Core.Option.{some}
