@@ -125,7 +125,7 @@ nothing-beyond t t′ e = record {
 pub nothing-beyond-written : (h : Head) (ts cs : List ℕ) → ((lent : ℕ) → writeOf h ts cs lent ≡ writeOf h (take (4 * h .n) ts) (take (4 * h .k) cs) lent) × ((out : List ℕ) → writtenOf h ts cs out ≡ writtenOf h (take (4 * h .n) ts) (take (4 * h .k) cs) out)
 nothing-beyond-written h ts cs = (cut-write-answer h ts cs, cut-write-buffer h ts cs)
 
--- "Reading an accepted sheet and writing it again gives its bytes": a sheet of which `read_sheet` answers the head, by its contract
+-- "Reading an accepted sheet and writing it again gives its bytes": a sheet of which `read_sheet` answers the head, by its contract, written to a buffer that is long enough
 module _ (κs : Lfts 1) (a : ArgsD read-sheet.signature κs) (z : AtExit (endedOf 1 read-sheet-kinds.ps read-sheet-kinds.r) κs) (h : Head) (read : read-sheet-reads.Post κs a (sheet.Sheet h) z) where
   abbrev sheetRead : List ℕ
   sheetRead = now (a .0)
@@ -135,7 +135,7 @@ module _ (κs : Lfts 1) (a : ArgsD read-sheet.signature κs) (z : AtExit (endedO
       let e = sym (read .0) in
       rw (← part-whole sheetRead (termsOf sheetRead) (readOf sheetRead) refl h e, ← part-whole sheetRead (conditionsOf sheetRead) (readOf sheetRead) refl h e) (read-then-written sheetRead h (read .1) e out room)
 
--- "writing an accepted table and reading it gives that table": its head, its n term rows and its k condition rows
+-- "writing an accepted table and reading it gives that table": its head, its n term rows and its k condition rows, from a buffer that was long enough
 module _ (h : Head) (ts cs : List ℕ) (accepted : refusalOf (tableOf h ts cs) .number ≡ 0) (out : List ℕ) (room : sizeOf h ≤ length out) where
   -- what was written
   abbrev sheetWritten : List ℕ

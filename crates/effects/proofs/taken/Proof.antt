@@ -1,4 +1,5 @@
-use Rattle.moves.specs.Steps.{takenOf}
+use mathlib.Core.Path.{_∙_, ap}
+use Rattle.moves.specs.Steps.{climbed, ownOf, takenOf}
 use borrow.Author.Needs.{needs}
 use Rattle.effects.proofs.taken.Statement.{statement}
 use Rattle.effects.proofs.taken.Tie as tie
@@ -17,7 +18,7 @@ climb-requires c κs = search needs
 
 returns : tie.Need-returns
 unfolding takenOf
-returns c = rw (c .climb .ensures, c .before .set-own .ensures, c .before .before .pass .ensures)
+returns c = c .climb .ensures ∙ ap (climbed _ _ _ _) (c .before .set-own .ensures ∙ ap (ownOf _) (c .before .before .pass .ensures))
 
 pub taken-spec : {M : Type 1} → statement M
 taken-spec = tie.close (tie.spec cast-pass pass-requires set-own-requires climb-requires returns)

@@ -1,5 +1,6 @@
 use lib.Dec.{leb, ltb}
-use mathlib.Core.Path.{refl}
+use mathlib.Core.Path.{_≡_, refl}
+use mathlib.Core.Bool.{true, false, _||_}
 use Rattle.laws.proofs.Tests.{or-is}
 use Rattle.judge.specs.Judge.{joinNoted}
 use borrow.Author.Needs.{needs}
@@ -11,13 +12,19 @@ width-requires c κs = search needs
 
 returns : tie.Need-returns
 unfolding joinNoted
-returns c = let w = c .before .before .width in
-    rw (← w .ensures, ← or-is (leb (w .result) 8) (ltb (c .before .before .before .args .notes .join) (c .before .before .before .args .n)), c .if1 .taken) refl
+returns c =
+    let w = c .before .before .width in
+    let a = c .before .before .before .args in
+    let test : (leb (w .result) 8 || ltb (a .notes .join) (a .n)) ≡ true = c .if1 .taken in
+    rw (← w .ensures, ← or-is (leb (w .result) 8) (ltb (a .notes .join) (a .n)), test) refl
 
 returns-2 : tie.Need-returns-2
 unfolding joinNoted
-returns-2 c = let w = c .before .before .width in
-    rw (← w .ensures, ← or-is (leb (w .result) 8) (ltb (c .before .before .before .args .notes .join) (c .before .before .before .args .n)), c .if1 .left) refl
+returns-2 c =
+    let w = c .before .before .width in
+    let a = c .before .before .before .args in
+    let test : (leb (w .result) 8 || ltb (a .notes .join) (a .n)) ≡ false = c .if1 .left in
+    rw (← w .ensures, ← or-is (leb (w .result) 8) (ltb (a .notes .join) (a .n)), test) refl
 
 pub note-join-spec : {M : Type 1} → statement M
 note-join-spec = tie.close (tie.spec width-requires returns returns-2)
