@@ -2,18 +2,15 @@
 use Prim.Native.Nat.{ℕ, _<_, _≤_}
 use mathlib.Core.Path.{_≡_, refl, sym, ap, _∙_}
 use mathlib.Core.Bool.{Bool, true, false, cond, _&&_, true≢false}
-use mathlib.Core.List.{List, _++_}
+use mathlib.Core.List.{List}
 use mathlib.Core.Logic.{by-cases}
 use mathlib.Core.Option.{Option, none, some}
 use native.Mathlib.Omega.{arith}
 use native.Mathlib.Decide.{decLt}
 use lib.Dec.{eqb, ltb}
-use lib.ListN.{getD, length, drop}
-use borrow.Author.Tests.{lt-ltb, le-ltb, le-leb, lt-leb}
+use borrow.Author.Tests.{lt-ltb, le-ltb}
 use Rattle.laws.specs.Tests.{bit}
 use Rattle.laws.proofs.Tests.{and-false}
-use Rattle.laws.specs.Listed.{listed, written}
-use Rattle.laws.proofs.Listed.{listed-same}
 use Rattle.calculus.specs.Process.{act, out, join, pick, flow}
 use Rattle.calculus.specs.Status.{Value, Unset, False, True, Links}
 use Rattle.calculus.specs.Places.{Turn, takes, drops, cleans}
@@ -30,11 +27,12 @@ use Rattle.evaluate.proofs.Rows.{evaluated-at}
 use Rattle.state.specs.declared.State.{State}
 use Rattle.state.specs.declared.StepKind.{StepKind}
 use Rattle.state.specs.declared.StepKind.the-variants.{Act, Set, Open, Clean, Refused}
-use Rattle.moves.specs.Steps.{modeOf, marksOf, linksOf, nodes, turnBy, turnAt, kindOf, kindBy, kindTurned, kindAt, hasStep, isSome, listedOf, steppedBy, steppedOf, takenOf, droppedOf}
-use Rattle.front.specs.Asked.{nextBy, nextOf, topOf, askedAt, Shows}
-use Rattle.front.proofs.Asking.{bit-one}
+use Rattle.moves.specs.Steps.{modeOf, marksOf, linksOf, nodes, turnBy, turnAt, kindOf, kindBy, kindTurned, kindAt, hasStep, isSome, steppedBy, steppedOf, takenOf, droppedOf}
+use Rattle.flags.specs.Flags.{flagged, Shows}
+use Rattle.flags.proofs.Shown.{shown}
+use Rattle.front.specs.Asked.{nextBy, nextOf, topOf, askedAt}
 use Rattle.effects.specs.Gather.{OwnBelow}
-use Rattle.engine.specs.ByValue.{joinKind, prefixKind, rowKind, kindFrom, isStep, stepFrom, takenAnswer}
+use Rattle.engine.specs.ByValue.{joinKind, prefixKind, rowKind, kindFrom, isStep, takenAnswer}
 
 -- a JOIN by the digit of its value
 join-kind : (r c mode : ℕ) (N : Row) (v : Value) → N ≡ PREFIX (join c) (firstOf N) → kindTurned N r (joinTurn (modeOf mode) v) ≡ joinKind r mode (digit v)
@@ -99,7 +97,7 @@ same-kind r mode (PREFIX (out l b) c) f g h = refl
 same-kind r mode (PREFIX (join q) c) f g h = ap (joinKind r mode) (h q c refl)
 same-kind r mode (BRANCH κ p q) f g h = refl
 
-asked-reached : (node : ℕ → Row) (μ : Marks) (j : ℕ) → askedAt 0 node μ j ≡ reached node μ j
+pub asked-reached : (node : ℕ → Row) (μ : Marks) (j : ℕ) → askedAt 0 node μ j ≡ reached node μ j
 unfolding askedAt nextOf nextBy topOf reached
 asked-reached node μ j = refl
 
@@ -108,14 +106,14 @@ module _ (t : Table) (w : WellFormed t) (s : State) (seen vals : List ℕ) (k : 
   value-known : (q : ℕ) → q < t .k → valueIn vals q ≡ digit (evalIn t q (linksOf s))
   value-known q h = let few : t .k ≤ 256 = w .few-conditions in evaluated-at (t .evaluation) (t .conditions) (linksOf s) (t .k) vals (k .vals-known) q h (omega arith)
 
-  pub kind-known : (r : ℕ) → kindFrom (t .terms) (t .n) (s .mode) (marksOf s) (λ j. eqb (getD seen j 0) 1) (valueIn vals) r ≡ kindAt t s r
+  pub kind-known : (r : ℕ) → kindFrom (t .terms) (t .n) (s .mode) (marksOf s) (flagged seen) (valueIn vals) r ≡ kindAt t s r
   unfolding kindFrom
   kind-known r =
       by-cases (decLt r (t .n))
-      (λ (h : r < t .n). ap (λ (b : Bool). cond (ltb r (t .n) && b && waitingStep (nodes t r) (marksOf s r)) (rowKind r (s .mode) (nodes t r) (valueIn vals)) (Refused 11 r)) (ap (λ (x : ℕ). eqb x 1) (k .seen-shows .at r h) ∙ (bit-one _ ∙ asked-reached (nodes t) (marksOf s) r))
+      (λ (h : r < t .n). ap (λ (b : Bool). cond (ltb r (t .n) && b && waitingStep (nodes t r) (marksOf s r)) (rowKind r (s .mode) (nodes t r) (valueIn vals)) (Refused 11 r)) (shown _ (t .n) seen (k .seen-shows) r h ∙ asked-reached (nodes t) (marksOf s) r)
       ∙ (ap (λ (x : StepKind). cond (ltb r (t .n) && reached (nodes t) (marksOf s) r && waitingStep (nodes t r) (marksOf s r)) x (Refused 11 r)) (same-kind r (s .mode) (nodes t r) (valueIn vals) (λ q. digit (evalIn t q (linksOf s))) (λ q c e. value-known q (w .joins r q c h e)))
       ∙ sym (kind-from t s r)))
-      (λ (h : r < t .n → ⊥). sym (from-none (t .terms) (t .n) (s .mode) (marksOf s) (λ j. eqb (getD seen j 0) 1) (valueIn vals) r (omega arith)) ∙ (from-none (t .terms) (t .n) (s .mode) (marksOf s) (reached (nodes t) (marksOf s)) (λ q. digit (evalIn t q (linksOf s))) r (omega arith) ∙ sym (kind-from t s r)))
+      (λ (h : r < t .n → ⊥). sym (from-none (t .terms) (t .n) (s .mode) (marksOf s) (flagged seen) (valueIn vals) r (omega arith)) ∙ (from-none (t .terms) (t .n) (s .mode) (marksOf s) (reached (nodes t) (marksOf s)) (λ q. digit (evalIn t q (linksOf s))) r (omega arith) ∙ sym (kind-from t s r)))
 
 -- by the bytes of the row
 pub kind-1 : (kind a b c r mode : ℕ) (f : ℕ → ℕ) → kind ≡ 1 → Act a ≡ rowKind r mode (rowBy kind a b c) f
@@ -257,16 +255,3 @@ has-kind N r (some drops) = refl
 pub kind-step : (t : Table) (s : State) (r : ℕ) → isStep (kindAt t s r) ≡ hasStep t s r
 unfolding kindAt hasStep
 kind-step t s r = has-kind (nodes t r) r (turnAt t s r)
-
-pub list-known : (t : Table) → WellFormed t → (s : State) (seen vals : List ℕ) → Knows t s seen vals → listed (stepFrom (t .terms) (t .n) (s .mode) (s .marks) seen vals) 0 (t .n) ≡ listedOf t s
-unfolding stepFrom listedOf
-list-known t w s seen vals k = listed-same _ (hasStep t s) 0 (t .n) (λ r a b. ap isStep (kind-known t w s seen vals k r) ∙ kind-step t s r)
-
--- a buffer with room, and one without
-pub written-fits : (xs lent after : List ℕ) → length xs ≤ length lent → after ≡ xs ++ drop (length xs) lent → after ≡ written xs lent
-unfolding written
-written-fits xs lent after h e = rw (le-leb _ _ h) e
-
-pub written-short : (xs lent : List ℕ) → length lent < length xs → lent ≡ written xs lent
-unfolding written
-written-short xs lent h = rw (lt-leb _ _ h) refl

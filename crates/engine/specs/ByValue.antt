@@ -16,6 +16,7 @@ use Rattle.state.specs.declared.State.{State}
 use Rattle.state.specs.declared.StepKind.{StepKind}
 use Rattle.state.specs.declared.StepKind.the-variants.{Act, Set, Open, Clean, Refused}
 use Rattle.moves.specs.Steps.{modeOf, kindAt, steppedOf}
+use Rattle.flags.specs.Flags.{flagged}
 use Rattle.engine.specs.declared.Stepped.{Stepped}
 
 unfoldable pub joinKind : ℕ → ℕ → ℕ → StepKind
@@ -43,7 +44,7 @@ isStep (Refused a b) = false
 
 -- the row has a step, from the tables of marks, of what is reached, of values
 unfoldable pub stepFrom : List ℕ → ℕ → ℕ → List ℕ → List ℕ → List ℕ → ℕ → Bool
-stepFrom ts n mode marks seen vals r = isStep (kindFrom ts n mode (λ k. getD marks k 0) (λ k. eqb (getD seen k 0) 1) (valueIn vals) r)
+stepFrom ts n mode marks seen vals r = isStep (kindFrom ts n mode (λ k. getD marks k 0) (flagged seen) (valueIn vals) r)
 
 -- the kind that was taken, or 11 and the row; and the state after
 unfoldable pub takenAnswer : Table → State → ℕ → Stepped

@@ -1,15 +1,13 @@
 // The step of a row in a state, the list of steps, and taking one, for an accepted table.
 ghost use mathlib.Core.Path.{_≡_};
-ghost use mathlib.Core.List.{_++_};
 ghost use Prim.Native.Nat.{_+_, _*_, _<_, _≤_};
-ghost use lib.Dec.{eqb};
-ghost use lib.ListN.{length, getD, drop};
-ghost use Rattle.laws.specs.Tests.{bit};
-ghost use Rattle.laws.specs.Listed.{listed, written};
+ghost use lib.ListN.{length, getD};
+ghost use Rattle.laws.specs.Listed.{written};
 ghost use Rattle.sheet.specs.Table.{tableOf, rowAt};
 ghost use Rattle.sheet.specs.Accepted.{WellFormed};
 ghost use Rattle.evaluate.specs.Values.{valueIn};
 ghost use Rattle.moves.specs.Steps.{kindAt, listedOf};
+ghost use Rattle.flags.specs.Flags.{flagged, Shows};
 ghost use Rattle.engine.specs.ByValue.{joinKind, rowKind, kindFrom, isStep, stepFrom, takenAnswer};
 use evaluate::Values;
 use sheet::Head;
@@ -36,15 +34,6 @@ fn join_kind(row: usize, mode: u8, value: u8) -> StepKind
     StepKind::Refused(11, row)
 }
 
-fn one(b: u8) -> u8
-    ensures { λ r. ⌜ r ≡ bit (eqb b 1) ⌝ }
-{
-    if b == 1 {
-        return 1;
-    }
-    0
-}
-
 // The step of a row in front.
 fn row_kind(ts: &[u8], row: usize, mode: u8, vals: &Values) -> StepKind
     requires { ⌜ row * 4 + 4 ≤ length (now ts) ⌝ }
@@ -53,7 +42,7 @@ fn row_kind(ts: &[u8], row: usize, mode: u8, vals: &Values) -> StepKind
     let at = row * 4;
     match ts[at] {
         1 => StepKind::Act(ts[at + 1]),
-        2 => StepKind::Set(ts[at + 1], one(ts[at + 2])),
+        2 => StepKind::Set(ts[at + 1], (ts[at + 2] == 1) as u8),
         3 => join_kind(row, mode, evaluate::value_in(vals, ts[at + 1])),
         _ => StepKind::Refused(11, row),
     }
@@ -70,7 +59,7 @@ fn kind_from(
     row: usize,
 ) -> StepKind
     requires { ⌜ (n * 4 ≤ length (now ts)) × (n ≤ 256) ⌝ }
-    ensures { λ r. ⌜ r ≡ kindFrom (now (ts .entry)) n mode (λ k. getD (now (marks .entry)) k 0) (λ k. eqb (getD (now (reached .entry)) k 0) 1) (valueIn (now (vals .entry))) row ⌝ }
+    ensures { λ r. ⌜ r ≡ kindFrom (now (ts .entry)) n mode (λ k. getD (now (marks .entry)) k 0) (flagged (now (reached .entry))) (valueIn (now (vals .entry))) row ⌝ }
 {
     if n <= row {
         return StepKind::Refused(11, row);
@@ -155,75 +144,24 @@ fn has_step(
     is_step(kind_from(ts, n, mode, marks, reached, vals, row))
 }
 
-// How many rows have a step.
-fn count(
+// Flags the rows that have a step.
+fn show_steps(
+    flags: &mut [u8; 256],
     ts: &[u8],
     n: usize,
     mode: u8,
     marks: &[u8; 256],
     reached: &[u8; 256],
     vals: &Values,
-) -> usize
-    requires { ⌜ (n * 4 ≤ length (now ts)) × (n ≤ 256) ⌝ }
-    ensures { λ r. ⌜ r ≡ length (listed (stepFrom (now (ts .entry)) n mode (now (marks .entry)) (now (reached .entry)) (now (vals .entry))) 0 n) ⌝ }
-{
-    let mut found = 0;
-    let mut i = 0;
-    while i < n {
-        if has_step(ts, n, mode, marks, reached, vals, i) {
-            found += 1;
-            i += 1;
-        } else {
-            i += 1;
-        }
-    }
-    found
-}
-
-// The rows that have a step, in rising order.
-fn write(
-    ts: &[u8],
-    n: usize,
-    mode: u8,
-    marks: &[u8; 256],
-    reached: &[u8; 256],
-    vals: &Values,
-    out: &mut [u8],
 )
-    requires { ⌜ (n * 4 ≤ length (now ts)) × ((n ≤ 256) × (length (listed (stepFrom (now ts) n mode (now marks) (now reached) (now vals)) 0 n) ≤ length (now out))) ⌝ }
-    ensures { λ _. ⌜ now (out .exit) ≡ listed (stepFrom (now (ts .entry)) n mode (now (marks .entry)) (now (reached .entry)) (now (vals .entry))) 0 n ++ drop (length (listed (stepFrom (now (ts .entry)) n mode (now (marks .entry)) (now (reached .entry)) (now (vals .entry))) 0 n)) (now (out .entry)) ⌝ }
+    requires { ⌜ (length (now flags) ≡ 256) × ((n * 4 ≤ length (now ts)) × (n ≤ 256)) ⌝ }
+    ensures { λ _. ⌜ Shows (stepFrom (now (ts .entry)) n mode (now (marks .entry)) (now (reached .entry)) (now (vals .entry))) n (now (flags .exit)) ⌝ }
 {
-    let mut found = 0;
     let mut i = 0;
     while i < n {
-        if has_step(ts, n, mode, marks, reached, vals, i) {
-            out[found] = i as u8;
-            found += 1;
-            i += 1;
-        } else {
-            i += 1;
-        }
+        flags[i] = has_step(ts, n, mode, marks, reached, vals, i) as u8;
+        i += 1;
     }
-}
-
-fn fill(
-    ts: &[u8],
-    n: usize,
-    mode: u8,
-    marks: &[u8; 256],
-    reached: &[u8; 256],
-    vals: &Values,
-    out: &mut [u8],
-) -> usize
-    requires { ⌜ (n * 4 ≤ length (now ts)) × (n ≤ 256) ⌝ }
-    ensures { λ r. ⌜ (r ≡ length (listed (stepFrom (now (ts .entry)) n mode (now (marks .entry)) (now (reached .entry)) (now (vals .entry))) 0 n)) × (now (out .exit) ≡ written (listed (stepFrom (now (ts .entry)) n mode (now (marks .entry)) (now (reached .entry)) (now (vals .entry))) 0 n) (now (out .entry))) ⌝ }
-{
-    let size = count(ts, n, mode, marks, reached, vals);
-    if out.len() < size {
-        return size;
-    }
-    write(ts, n, mode, marks, reached, vals, out);
-    size
 }
 
 // The rows that have a step to a lent buffer, and their number; a buffer that is too short is left as it is.
@@ -233,5 +171,7 @@ pub fn list(h: Head, ts: &[u8], cs: &[u8], s: State, out: &mut [u8]) -> usize
 {
     let reached = front::ask(front::REACHED, ts, h.n, &s.marks);
     let vals = evaluate::values(h.evaluation, cs, h.k, &s.links);
-    fill(ts, h.n, s.mode, &s.marks, &reached, &vals, out)
+    let mut flags = [0; 256];
+    show_steps(&mut flags, ts, h.n, s.mode, &s.marks, &reached, &vals);
+    flags::fill(&flags, h.n, out)
 }

@@ -6,15 +6,13 @@ use mathlib.Core.List.{List}
 use lib.Dec.{eqb}
 use lib.ListN.{getD, set, replicate}
 use Rattle.laws.specs.Tests.{bit}
+use Rattle.laws.proofs.Tests.{bit-one}
 use Rattle.steps.specs.Rows.{Row, Tree}
 use Rattle.steps.specs.Marks.{Marks}
 use Rattle.steps.specs.Push.{setIf, handed, Pushed}
 use Rattle.steps.proofs.Push.{pushed-none, pushed-own, pushed-all, pushed-more}
-use Rattle.front.specs.Asked.{nextOf, topOf, askedAt, Shows}
-
-pub bit-one : (b : Bool) → eqb (bit b) 1 ≡ b
-bit-one true = refl
-bit-one false = refl
+use Rattle.flags.specs.Flags.{Shows}
+use Rattle.front.specs.Asked.{nextOf, topOf, askedAt}
 
 start : (b : Bool) → set (replicate 256 0) 0 (bit b) ≡ setIf b 0 (replicate 256 0)
 unfolding setIf

@@ -14,7 +14,8 @@ ghost use Rattle.steps.specs.Push.{setIf, handed};
 ghost use Rattle.sheet.specs.Table.{rowAt};
 ghost use Rattle.moves.specs.Steps.{modeOf};
 ghost use Rattle.moves.specs.Fits.{keepsBy, keeps};
-ghost use Rattle.front.specs.Asked.{nextBy, nextOf, topOf, askedAt, Shows};
+ghost use Rattle.flags.specs.Flags.{Shows};
+ghost use Rattle.front.specs.Asked.{nextBy, nextOf, topOf, askedAt};
 
 // What is asked of a row.
 pub const REACHED: u8 = 0;

@@ -17,7 +17,7 @@ use Rattle.state.specs.State.{sideMark}
 use Rattle.moves.specs.Steps.{marksOf, linksOf, Sized, nodes, kindAt, hasStep, steppedOf}
 use Rattle.moves.specs.Above.{PickAbove}
 use Rattle.moves.specs.Fits.{Fits}
-use Rattle.moves.specs.Runs.{Run, over, take, taken, last}
+use Rattle.moves.specs.Runs.{Run, done, take, taken, last}
 use Rattle.moves.proofs.Moves.{has-turn, takes-kind, step-kept}
 use Rattle.moves.proofs.Frame.{step-frames}
 use Rattle.moves.proofs.Runs.{shown, to-moves, grows-run}
@@ -33,7 +33,7 @@ module _ (t : Table) (w : WellFormed t) where
   module _ (source : SingleSource t) where
     pub fits-run : {s : State} → Sized s → Fits t s → (R : Run t s) → Fits t (last R)
     unfolding last
-    fits-run h f over = f
+    fits-run h f done = f
     fits-run {s} h f (take r e R) = fits-run (step-kept t w s h r e .0) (fits-step t w source s h r e f) R
 
     -- "A link once set never alters": from any fitting state
@@ -47,5 +47,5 @@ module _ (t : Table) (w : WellFormed t) where
         let (u, q) = has-turn t s r e in (
           step-kept t w s h r e .1,
           λ k. ⊎-elim inl (λ c. inr (⊎-elim (λ d. inl (d .0)) (λ (v, side, p, x). inr (takes-kind t s r (q ∙ ap some v), side, p, x)) c)) (step-frames t w s r u q k),
-          links-never-alter h f (take r e over),
+          links-never-alter h f (take r e done),
         )

@@ -10,7 +10,7 @@ use Rattle.calculus.specs.Plain.{Label}
 use Rattle.calculus.specs.Places.{Single, Mode, plain, cleans, Valid, Grows, label, left, links}
 use Rattle.calculus.specs.Rules.{Rule}
 use Rattle.calculus.specs.Steps.{joinTurn, turnOf}
-use Rattle.calculus.specs.Runs.{Run as Moves, done, more, trail, last as last-process, last-links}
+use Rattle.calculus.specs.Runs.{Run as Moves, done as ended, more, trail, last as last-process, last-links}
 use Rattle.calculus.specs.Rows.{row-of}
 use Rattle.calculus.proofs.Rules.{to-rules}
 use Rattle.calculus.proofs.Runs.{links-stay}
@@ -20,7 +20,7 @@ use Rattle.sheet.specs.Table.{Table, evalIn}
 use Rattle.sheet.specs.Accepted.{WellFormed, SingleSource}
 use Rattle.state.specs.declared.State.{State}
 use Rattle.moves.specs.Steps.{modeOf, marksOf, linksOf, Sized, nodes, leftIn, turnBy, turnAt, kindOf, kindIn, kindBy, kindTurned, kindAt, steppedOf, Listed}
-use Rattle.moves.specs.Runs.{Run, over, take, Taken, taken, last, unless-clean, struck}
+use Rattle.moves.specs.Runs.{Run, done, take, Taken, taken, last, unless-clean, struck}
 use Rattle.moves.proofs.Moves.{step-move, step-kept}
 use Rattle.moves.proofs.Allowed.{left-single, allowed-listed}
 
@@ -53,7 +53,7 @@ module _ (t : Table) (w : WellFormed t) where
 
   pub to-moves : {s : State} → Sized s → (R : Run t s) → As R (modeOf (s .mode)) (leftIn t s) (linksOf s)
   unfolding trail last-process last-links taken last
-  to-moves h over = (done, refl, refl, refl)
+  to-moves h done = (ended, refl, refl, refl)
   to-moves {s} h (take r e R) =
       let (α, p, q, (y, a, b, c)) = step-move t w s h r e in
       let (k, o) = step-kept t w s h r e in
@@ -63,7 +63,7 @@ module _ (t : Table) (w : WellFormed t) where
   -- a run keeps the mode and the size
   pub run-kept : {s : State} → Sized s → (R : Run t s) → Sized (last R) × (last R .mode ≡ s .mode)
   unfolding last
-  run-kept h over = (h, refl)
+  run-kept h done = (h, refl)
   run-kept {s} h (take r e R) =
       let (k, o) = step-kept t w s h r e in
       let (k′, o′) = run-kept k R in
@@ -72,7 +72,7 @@ module _ (t : Table) (w : WellFormed t) where
   -- a run without cleaning has no cleaning step
   pub plain-run : {s : State} → Sized s → s .mode ≡ 0 → (R : Run t s) → struck (taken R) ≡ taken R
   unfolding taken struck kindAt turnAt modeOf
-  plain-run h m over = refl
+  plain-run h m done = refl
   plain-run {s} h m (take r e R) =
       let (k, o) = step-kept t w s h r e in
       ap (unless-clean _ (kindAt t s r)) (plain-run k (o ∙ m) R) ∙ unclean s m r (taken R)
@@ -87,7 +87,7 @@ module _ (t : Table) (w : WellFormed t) where
   module _ (source : SingleSource t) where
     pub from-moves : {m : Mode} {P : Process} {v : Links} (S : Moves eval m P v) (s : State) → Sized s → modeOf (s .mode) ≡ m → leftIn t s ≡ P → linksOf s ≡ v → (R : Run t s) × (taken R ≡ map shown (trail eval S)) × (leftIn t (last R) ≡ last-process eval S) × (linksOf (last R) ≡ last-links eval S)
     unfolding trail last-process last-links taken last
-    from-moves done s h e p q = (over, refl, p, q)
+    from-moves ended s h e p q = (done, refl, p, q)
     from-moves {m} {P} {v} (more y S) s h e p q =
         let r : ℕ = row-of (label eval y) in
         let ρ = to-rules eval (subst Single p (left-single t w source s)) y in

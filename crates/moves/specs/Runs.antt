@@ -14,7 +14,7 @@ use Rattle.state.specs.State.{freshOf}
 use Rattle.moves.specs.Steps.{linksOf, kindAt, hasStep, steppedOf}
 
 pub data Run (t : Table) : State → Type 0 where
-  over : {s : State} → Run t s
+  done : {s : State} → Run t s
   take : {s : State} (r : ℕ) → hasStep t s r ≡ true → Run t (steppedOf t s r) → Run t s
 
 -- a step taken: its row and its kind
@@ -23,11 +23,11 @@ pub record Taken : Type 0 where
   pub kind : StepKind
 
 unfoldable pub taken : {t : Table} {s : State} → Run t s → List Taken
-taken over = []
+taken done = []
 taken {t} {s} (take r e R) = record { row = r; kind = kindAt t s r } ∷ taken R
 
 unfoldable pub last : {t : Table} {s : State} → Run t s → State
-last {s = s} over = s
+last {s = s} done = s
 last (take r e R) = last R
 
 -- the steps but the cleaning steps

@@ -23,7 +23,7 @@ use Rattle.state.specs.declared.State.{State}
 use Rattle.state.specs.State.{freshOf}
 use Rattle.moves.specs.Steps.{marksOf, nodes, kindAt, hasStep, steppedOf}
 use Rattle.moves.specs.Fits.{modeCheck}
-use Rattle.moves.specs.Runs.{Run, over, taken}
+use Rattle.moves.specs.Runs.{Run, done, taken}
 use Rattle.moves.specs.Runs as runs
 use Rattle.moves.proofs.Kept.{run-length}
 use Rattle.sheet_engine.specs.Answers.{verdictAnswer}
@@ -38,7 +38,7 @@ use Rattle.printing.proofs.Room.{count-few, split}
 -- either a run takes all the rows, or those behind them are never come to
 steps-upto : (t : Table) (s : State) (xs ys : List ℕ) → Accepted t s → ((R : Run t s) × (length (taken R) ≡ length xs)) ⊎ (stepLines t s (xs ++ ys) ≡ stepLines t s xs)
 unfolding stepLines taken
-steps-upto t s [] ys g = inl (over, refl)
+steps-upto t s [] ys g = inl (done, refl)
 steps-upto t s (r ∷ xs) ys g = at (hasStep t s r) refl (λ e. steps-upto t (steppedOf t s r) xs ys (stepped t s g r e))
   where
     at : (b : Bool) → hasStep t s r ≡ b → (hasStep t s r ≡ true → ((R : Run t (steppedOf t s r)) × (length (taken R) ≡ length xs)) ⊎ (stepLines t (steppedOf t s r) (xs ++ ys) ≡ stepLines t (steppedOf t s r) xs)) → ((R : Run t s) × (length (taken R) ≡ suc (length xs))) ⊎ (stepLine r (kindAt t s r) ++ cond b (stepLines t (steppedOf t s r) (xs ++ ys)) [] ≡ stepLine r (kindAt t s r) ++ cond b (stepLines t (steppedOf t s r) xs) [])

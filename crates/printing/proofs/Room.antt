@@ -10,11 +10,10 @@ use lib.Dec.{eqb, ltb}
 use lib.ListN.{length, take, drop}
 use lib.Seq.{length-take-le}
 use borrow.Author.Tests.{leb-true, ltb-false}
-use Rattle.laws.specs.Tests.{bit}
 use Rattle.laws.specs.Listed.{written}
 use Rattle.laws.specs.Sums.{sum, count}
 use Rattle.laws.specs.Checks.{Check, placeOf, checked, AllHold}
-use Rattle.laws.proofs.Tests.{cond-all, cond-cases}
+use Rattle.laws.proofs.Tests.{bit-small, cond-all, cond-cases}
 use Rattle.laws.proofs.Listed.{listed-under}
 use Rattle.laws.proofs.Checks.{all-hold, place-holds}
 use Rattle.calculus.specs.Process.{Prefix, act, out, join}
@@ -34,7 +33,7 @@ use Rattle.state.specs.declared.State.{State}
 use Rattle.state.specs.State.{freshOf}
 use Rattle.moves.specs.Steps.{marksOf, nodes, turnAt, kindOf, kindBy, kindTurned, kindAt, hasStep, steppedOf, listedOf}
 use Rattle.moves.specs.Fits.{modeCheck}
-use Rattle.moves.specs.Runs.{Run, over, taken}
+use Rattle.moves.specs.Runs.{Run, done, taken}
 use Rattle.moves.specs.Runs as runs
 use Rattle.moves.proofs.Moves.{has-turn, turn-fronts, turn-parts}
 use Rattle.moves.proofs.Kept.{run-length}
@@ -99,10 +98,6 @@ row-act : (kind a b c : ℕ) → a < 256 → ActByte (rowBy kind a b c)
 unfolding rowBy
 row-act kind a b c h = cond-all ActByte (eqb kind 0) tt (cond-all ActByte (eqb kind 1) h (cond-all ActByte (eqb kind 2) tt (cond-all ActByte (eqb kind 3) tt (cond-all ActByte (eqb kind 4) tt (cond-all ActByte (eqb kind 5) tt tt)))))
 
-bit-few : (b : Bool) → bit b < 10
-bit-few true = omega arith
-bit-few false = omega arith
-
 module _ (t : Table) (w : WellFormed t) (bytes : Bytes (t .terms)) (s : State) (r : ℕ) (there : hasStep t s r ≡ true) where
   inside : r < t .n
   inside = let (u, e) = has-turn t s r there in turn-parts t s r u e .0
@@ -110,7 +105,7 @@ module _ (t : Table) (w : WellFormed t) (bytes : Bytes (t .terms)) (s : State) (
   prefix-few : (π : Prefix) (c : ℕ) → nodes t r ≡ PREFIX π c → Few (kindOf π)
   unfolding kindOf Few rowAt
   prefix-few (act a) c p = let b : a < 256 = subst ActByte p (row-act _ _ _ _ (bytes (r * 4 + 1))) in omega (arith, b)
-  prefix-few (out l b) c p = (omega (arith, w .outs r l c b inside p, w .few-links), bit-few b)
+  prefix-few (out l b) c p = (omega (arith, w .outs r l c b inside p, w .few-links), omega (arith, bit-small b))
   prefix-few (join q) c p = tt
 
   kind-few : Few (kindAt t s r)
@@ -136,12 +131,12 @@ end-short t s g = joined 71 1032 (links-short (t .m) (s .links) (formed g .few-l
 -- the lines of the steps that a run takes
 steps-short : (t : Table) → Bytes (t .terms) → (s : State) (rows : List ℕ) → Accepted t s → (R : Run t s) × Short (stepLines t s rows) (length (taken R) * 18 + ending)
 unfolding stepLines taken
-steps-short t b s [] g = (over, end-short t s g)
+steps-short t b s [] g = (done, end-short t s g)
 steps-short t b s (r ∷ rows) g = at (hasStep t s r) refl (λ e. steps-short t b (steppedOf t s r) rows (stepped t s g r e))
   where
     at : (b′ : Bool) → hasStep t s r ≡ b′ → (hasStep t s r ≡ true → (R : Run t (steppedOf t s r)) × Short (stepLines t (steppedOf t s r) rows) (length (taken R) * 18 + ending)) → (R : Run t s) × Short (stepLine r (kindAt t s r) ++ cond b′ (stepLines t (steppedOf t s r) rows) []) (length (taken R) * 18 + ending)
     at true e more = let (R, h) = more e in (runs.take r e R, within _ _ (omega arith) (joined 18 (length (taken R) * 18 + ending) (taken-short t (formed g) b s r e) h))
-    at false e more = (over, within 50 ending (omega arith) (joined 50 0 (untaken-short t s r e) (record { is = omega arith })))
+    at false e more = (done, within 50 ending (omega arith) (joined 50 0 (untaken-short t s r e) (record { is = omega arith })))
 
 pub count-few : (p : ℕ → Bool) (n : ℕ) → count p n ≤ n
 unfolding count sum

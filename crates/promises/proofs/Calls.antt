@@ -10,7 +10,7 @@ use native.Mathlib.Decide.{ℕ-discrete}
 use lib.ListN.{length, take, drop, replicate, length-replicate}
 use lib.Seq.{take-at}
 use Rattle.laws.specs.Checks.{checked}
-use Rattle.laws.proofs.Listed.{listed-length}
+use Rattle.laws.proofs.Listed.{listed-length, written-fits}
 use Rattle.calculus.specs.Places.{Turn, takes, drops}
 use Rattle.steps.specs.InFront.{waitingSteps}
 use Rattle.sheet.specs.declared.Refusal.{Refusal}
@@ -25,7 +25,7 @@ use Rattle.state.specs.declared.StepKind.{StepKind}
 use Rattle.state.specs.declared.StepKind.the-variants.{Clean}
 use Rattle.moves.specs.Steps.{marksOf, Sized, nodes, turnAt, kindTurned, kindAt, hasStep, listedOf, steppedOf}
 use Rattle.moves.specs.Runs.{Taken}
-use Rattle.moves.specs.Runs.{Run as Steps, over as ended, take as stepping, taken as stepsTaken, last as lastState}
+use Rattle.moves.specs.Runs.{Run as Steps, done as ended, take as stepping, taken as stepsTaken, last as lastState}
 use Rattle.moves.proofs.Allowed.{listed-rows}
 use Rattle.moves.proofs.Moves.{has-turn, takes-kind, step-kept}
 use Rattle.moves.proofs.Fits.{fits-step}
@@ -34,11 +34,11 @@ use Rattle.fitting.specs.Checks.{stateChecks}
 use Rattle.fitting.proofs.Fitted.{fits-accepted, accepts-fitting}
 use Rattle.engine.specs.declared.Stepped.{Stepped}
 use Rattle.engine.specs.ByValue.{takenAnswer}
-use Rattle.engine.proofs.Known.{kind-step, written-fits}
+use Rattle.engine.proofs.Known.{kind-step}
 use Rattle.sheet_engine.specs.Answers.{listAnswer, callChecks, listBuffer, kindAnswer, stepAnswer}
 use Rattle.sheet_engine.specs.Values.{sizeValues, stepValues}
 use Rattle.sheet_engine.proofs.Steps.{table-first, state-then, kind-refused, kind-given, step-refused, step-given, list-refused, list-given}
-use Rattle.promises.specs.Calls.{Accepted, countOf, listedIn, listedRows, Run, over, more, taken, last}
+use Rattle.promises.specs.Calls.{Accepted, countOf, listedIn, listedRows, Run, done, more, taken, last}
 
 -- what acceptance of the table gives
 pub formed : {t : Table} {s : State} → Accepted t s → WellFormed t
@@ -179,7 +179,7 @@ module _ (t : Table) (s : State) where
 -- A run of the calls is one of `moves`, with the same steps and the same state after it ...
 pub to-steps : {t : Table} {s : State} → Accepted t s → (G : Run t s) → (R : Steps t s) × (stepsTaken R ≡ taken G) × (lastState R ≡ last G)
 unfolding taken last stepsTaken lastState
-to-steps a over = (ended, refl, refl)
+to-steps a done = (ended, refl, refl)
 to-steps {t} {s} a (more r m ok G) =
     let e = unrefused t s a in
     let (R, p, q) = subst (λ (z : State). (R : Steps t z) × (stepsTaken R ≡ taken G) × (lastState R ≡ last G)) (state-is t s e r) (to-steps (taken-keeps t s a r ok) G) in
@@ -188,7 +188,7 @@ to-steps {t} {s} a (more r m ok G) =
 -- ... and the other way
 pub from-steps : {t : Table} {s : State} → Accepted t s → (R : Steps t s) → (G : Run t s) × (taken G ≡ stepsTaken R) × (last G ≡ lastState R)
 unfolding taken last stepsTaken lastState
-from-steps a ended = (over, refl, refl)
+from-steps a ended = (done, refl, refl)
 from-steps {t} {s} a (stepping r h R) =
     let e = unrefused t s a in
     let (G, p, q) = subst (λ (z : State). (G : Run t z) × (taken G ≡ stepsTaken R) × (last G ≡ lastState R)) (sym (state-is t s e r)) (from-steps (stepped t s a r h) R) in
@@ -197,7 +197,7 @@ from-steps {t} {s} a (stepping r h R) =
 -- a run leads to a state of the table
 pub run-keeps : {t : Table} {s : State} → Accepted t s → (G : Run t s) → Accepted t (last G)
 unfolding last
-run-keeps a over = a
+run-keeps a done = a
 run-keeps {t} {s} a (more r m ok G) = run-keeps (taken-keeps t s a r ok) G
 
 -- a run is no longer than its rows that wait

@@ -80,14 +80,14 @@ Allowed t s α P v = Rule (evalIn t) (modeOf (s .mode)) (leftIn t s) (linksOf s)
 
 -- A run of the calls: rows, each listed by `list_steps` and taken by `take_step` in the state before, which hands out the state after.
 pub data Run (t : Table) : State → Type 0 where
-  over : {s : State} → Run t s
+  done : {s : State} → Run t s
   more : {s : State} (row : ℕ) → List·Memᴰ row (listedRows t s) → stepAnswer t s row .ok ≡ true → Run t (next t s row) → Run t s
 
 -- its steps, with the kinds that `take_step` answered, and the state after it
 unfoldable pub taken : {t : Table} {s : State} → Run t s → List Taken
-taken over = []
+taken done = []
 taken {t} {s} (more row listed ok G) = record { row = row; kind = stepAnswer t s row .answer } ∷ taken G
 
 unfoldable pub last : {t : Table} {s : State} → Run t s → State
-last {s = s} over = s
+last {s = s} done = s
 last (more row listed ok G) = last G

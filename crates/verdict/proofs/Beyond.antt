@@ -15,12 +15,12 @@ use Rattle.calculus.specs.Process.{act, out, join}
 use Rattle.steps.specs.Rows.{Row, NIL, PREFIX, BRANCH, isJoinPrefix, isJoin, conditionOfPrefix, conditionOf}
 use Rattle.sheet.specs.Table.{Table, cut, rowAt}
 use Rattle.sheet.specs.Accepted.{WellFormed}
+use Rattle.sheet.proofs.Rows.{join-of}
 use Rattle.sheet.proofs.Beyond.{row-same, condition-same}
 use Rattle.failure.specs.Failure.{failsAt, numberAt, linkAt}
 use Rattle.verdict.specs.declared.Verdict.{Verdict}
 use Rattle.verdict.specs.declared.Verdict.the-variants.{Pass}
 use Rattle.verdict.specs.Verdict.{failsIn, sound, failing, failAt, verdictOf}
-use Rattle.verdict.proofs.Exactly.{join-of}
 
 -- the failure of a condition row below k
 module _ (e m k : ℕ) (cs : List ℕ) (q : ℕ) (h : q < k) where

@@ -1,34 +1,27 @@
 -- The verdict is pass exactly if the condition of every JOIN row meets R's condition (2), and a failure is of a JOIN row whose condition does not. Assumes nothing.
 use Prim.Native.Nat.{ℕ, _+_, _<_, _≤_}
 use mathlib.Core.Path.{_≡_, refl, sym, _∙_, ap}
-use mathlib.Core.Bool.{true, not, true≢false}
+use mathlib.Core.Bool.{true, not}
 use mathlib.Core.Logic.{by-cases, _↔_}
 use native.Mathlib.Omega.{arith}
 use native.Mathlib.Decide.{decLt, ℕ-discrete}
 use borrow.Author.Tests.{lt-ltb, not-true, not-false}
 use Rattle.laws.proofs.Lowest.{lowest-below, lowest-at, lowest-none}
 use Rattle.laws.proofs.Tests.{and-l, and-r, refuted}
-use Rattle.calculus.specs.Process.{act, out, join}
+use Rattle.calculus.specs.Process.{join}
 use Rattle.calculus.specs.Order.{Condition2}
 use Rattle.conditions.specs.Conditions.{condition}
 use Rattle.conditions.specs.Numbers.{Offends}
 use Rattle.conditions.proofs.Failure.{fails-offends, number-smallest, link-lowest, condition-fails, condition-holds}
 use Rattle.conditions.proofs.Numbers.{links-inside}
-use Rattle.steps.specs.Rows.{Row, NIL, PREFIX, BRANCH, isJoinPrefix, isJoin, conditionOfPrefix, conditionOf}
+use Rattle.steps.specs.Rows.{PREFIX, isJoinPrefix, isJoin, conditionOfPrefix, conditionOf}
 use Rattle.steps.specs.Verdict.{SheetPasses}
 use Rattle.sheet.specs.Table.{Table, rowAt, conditionRowAt, evaluationOf, evalIn}
+use Rattle.sheet.proofs.Rows.{join-of}
 use Rattle.failure.specs.Failure.{linksAt, failsAt, numberAt, linkAt}
 use Rattle.verdict.specs.declared.Verdict.the-variants.{Pass, Fail}
 use Rattle.verdict.specs.Verdict.{failsIn, sound, failing, failAt, verdictOf, Judged}
 use Rattle.verdict.proofs.Joins.{kindAt, secondAt, join-row, sound-other, verdict-fail, verdict-pass}
-
-pub join-of : (N : Row) → isJoin N ≡ true → (d : ℕ) × (N ≡ PREFIX (join (conditionOf N)) d)
-unfolding isJoin isJoinPrefix conditionOf conditionOfPrefix
-join-of NIL e = absurd (true≢false (sym e))
-join-of (PREFIX (act a) d) e = absurd (true≢false (sym e))
-join-of (PREFIX (out l b) d) e = absurd (true≢false (sym e))
-join-of (PREFIX (join c) d) e = (d, refl)
-join-of (BRANCH κ p q) e = absurd (true≢false (sym e))
 
 module _ (t : Table) (g : Judged t) where
   -- a JOIN row is sound exactly if its condition does not fail

@@ -6,15 +6,15 @@ use mathlib.Core.List.{List}
 use mathlib.Core.Logic.{by-cases}
 use native.Mathlib.Omega.{arith}
 use native.Mathlib.Decide.{ℕ-discrete}
-use lib.Dec.{eqb}
 use lib.ListN.{length, getD, set, replicate}
 use lib.Seq.{getD-set-other}
-use borrow.Author.Tests.{lt-ltb, le-ltb, ne-eqb, not-true}
+use borrow.Author.Tests.{lt-ltb, le-ltb, eq-eqb, ne-eqb, not-true}
 use Rattle.laws.specs.Up.{Filled}
 use Rattle.laws.proofs.Up.{filled-at, getD-constant}
-use Rattle.calculus.specs.Process.{act, out, join, pick, flow}
-use Rattle.steps.specs.Rows.{NIL, PREFIX, BRANCH, isJoinPrefix, isJoin, conditionOfPrefix, conditionOf}
+use Rattle.calculus.specs.Process.{join}
+use Rattle.steps.specs.Rows.{PREFIX, isJoin, conditionOfPrefix, conditionOf}
 use Rattle.sheet.specs.Table.{Table, rowBy, rowAt}
+use Rattle.sheet.proofs.Rows.{row-join}
 use Rattle.reach.specs.Masks.{maskAt}
 use Rattle.failure.specs.declared.Failure.the-variants.{None, At}
 use Rattle.failure.specs.Failure.{numberAt, linkAt, failureOf, Narrow}
@@ -36,25 +36,14 @@ module _ (ts : List ℕ) (j : ℕ) where
   join-row e = rw e refl
 
   pub join-is : kindAt ≡ 3 → isJoin (rowAt ts j) ≡ true
-  unfolding isJoin isJoinPrefix
-  join-is e = rw (join-row e) refl
+  join-is e = row-join ts j ∙ eq-eqb kindAt 3 e
+
+  no-join : (kindAt ≡ 3 → ⊥) → isJoin (rowAt ts j) ≡ false
+  no-join h = row-join ts j ∙ ne-eqb kindAt 3 h
 
   pub join-condition : kindAt ≡ 3 → conditionOf (rowAt ts j) ≡ secondAt
   unfolding conditionOf conditionOfPrefix
   join-condition e = rw (join-row e) refl
-
-other-kinds : (a b c : ℕ) (t₀ t₁ t₂ t₄ t₅ : Bool) → isJoin (cond t₀ NIL (cond t₁ (PREFIX (act a) b) (cond t₂ (PREFIX (out a (eqb b 1)) c) (cond false (PREFIX (join a) b) (cond t₄ (BRANCH pick a b) (cond t₅ (BRANCH flow a b) NIL)))))) ≡ false
-unfolding isJoin isJoinPrefix
-other-kinds a b c true t₁ t₂ t₄ t₅ = refl
-other-kinds a b c false true t₂ t₄ t₅ = refl
-other-kinds a b c false false true t₄ t₅ = refl
-other-kinds a b c false false false true t₅ = refl
-other-kinds a b c false false false false true = refl
-other-kinds a b c false false false false false = refl
-
-pub no-join : (ts : List ℕ) (j : ℕ) → (kindAt ts j ≡ 3 → ⊥) → isJoin (rowAt ts j) ≡ false
-unfolding rowAt rowBy
-no-join ts j h = let k : ℕ = kindAt ts j in rw (ne-eqb (kindAt ts j) 3 h) (other-kinds (secondAt ts j) (getD ts (j * 4 + 2) 0) (getD ts (j * 4 + 3) 0) (eqb k 0) (eqb k 1) (eqb k 2) (eqb k 4) (eqb k 5))
 
 -- a JOIN row of a judged table, and the table of masks
 module _ (t : Table) (g : Judged t) (masks : List ℕ) (f : Filled 0 (maskAt (t .conditions)) (t .k) masks) (j : ℕ) (h : j < t .n) (is : kindAt (t .terms) j ≡ 3) (row mask : ℕ) (at-row : row ≡ secondAt (t .terms) j) (at-mask : mask ≡ getD masks (secondAt (t .terms) j) 0) where

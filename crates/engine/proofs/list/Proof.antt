@@ -1,7 +1,7 @@
 use mathlib.Core.Path.{_∙_, ap}
 use lib.ListN.{length}
 use Rattle.laws.specs.Listed.{written}
-use Rattle.engine.proofs.Known.{list-known}
+use Rattle.engine.proofs.Rows.{steps-known}
 use borrow.Author.Needs.{needs}
 use Rattle.engine.proofs.list.Statement.{statement}
 use Rattle.engine.proofs.list.Tie as tie
@@ -12,6 +12,9 @@ ask-requires c κs = search needs
 values-requires : tie.Need-values-requires
 values-requires c κs = search needs
 
+show-steps-requires : tie.Need-show-steps-requires
+show-steps-requires c κs = search needs
+
 fill-requires : tie.Need-fill-requires
 fill-requires c κs = search needs
 
@@ -19,7 +22,7 @@ same-length : tie.Need-same-length
 same-length c = search needs
 
 returns : tie.Need-returns
-returns c = let e = list-known _ (c .before .before .before .before .before .before .before .before .before .before .before .before .before .before .before .before .before .pre) _ _ _ (record { seen-shows = c .before .before .before .before .before .before .before .before .before .before .before .ask .ensures; vals-known = c .before .before .before .before .before .before .before .before .values .ensures }) in (c .before .before .fill .ensures .0 ∙ ap length e, c .before .before .fill .ensures .1 ∙ ap (λ xs. written xs (c .before .before .before .before .before .before .before .before .before .before .before .before .before .before .before .before .before .args .out .now)) e)
+returns c = let e = steps-known _ _ _ _ (record { seen-shows = c .before .before .before .before .before .before .before .before .before .before .before .before .before .before .ask .ensures; vals-known = c .before .before .before .before .before .before .before .before .before .before .before .values .ensures }) _ (c .before .before .before .before .before .before .before .before .before .before .before .before .before .before .before .before .before .before .before .before .pre) (c .before .before .before .before .before .show-steps .ensures) in (c .before .before .fill .ensures .0 ∙ ap length e, c .before .before .fill .ensures .1 ∙ ap (λ xs. written xs (c .before .before .before .before .before .before .before .before .before .before .before .before .before .before .before .before .before .before .before .before .args .out .now)) e)
 
 pub list-spec : {M : Type 1} → statement M
-list-spec = tie.close (tie.spec ask-requires values-requires fill-requires same-length returns)
+list-spec = tie.close (tie.spec ask-requires values-requires show-steps-requires fill-requires same-length returns)

@@ -1,4 +1,4 @@
-use mathlib.Core.Path.{_∙_}
+use mathlib.Core.Path.{refl, _∙_}
 use borrow.Author.Tests.{ne-eqb}
 use Rattle.sheet.specs.Table.{rowAt}
 use Rattle.engine.proofs.Known.{kind-1, kind-2, kind-3, kind-other}
@@ -24,14 +24,14 @@ add-t13 c = search needs
 shared-slice-read-t15 : tie.Need-shared-slice-read-t15
 shared-slice-read-t15 c = search needs
 
-add-one : tie.Need-add-one
-add-one c = search needs
+add-t16 : tie.Need-add-t16
+add-t16 c = search needs
 
-shared-slice-read-one : tie.Need-shared-slice-read-one
-shared-slice-read-one c = search needs
+shared-slice-read-t18 : tie.Need-shared-slice-read-t18
+shared-slice-read-t18 c = search needs
 
-one-requires : tie.Need-one-requires
-one-requires c κs = search needs
+cast-t20 : tie.Need-cast-t20
+cast-t20 c = search needs
 
 add-value-in : tie.Need-add-value-in
 add-value-in c = search needs
@@ -51,7 +51,7 @@ returns c = kind-1 _ _ _ _ _ _ _ (c .before .match .keys1)
 
 returns-2 : tie.Need-returns-2
 unfolding rowAt
-returns-2 c = kind-2 _ _ _ _ _ _ _ _ (c .before .before .before .match .keys2) (c .one .ensures)
+returns-2 c = kind-2 _ _ _ _ _ _ _ _ (c .before .before .match .keys2) refl
 
 returns-3 : tie.Need-returns-3
 unfolding rowAt
@@ -71,9 +71,9 @@ row-kind-spec =
     shared-slice-read-t12
     add-t13
     shared-slice-read-t15
-    add-one
-    shared-slice-read-one
-    one-requires
+    add-t16
+    shared-slice-read-t18
+    cast-t20
     add-value-in
     shared-slice-read-value-in
     value-in-requires

@@ -1,8 +1,8 @@
 use native.Mathlib.Omega.{arith}
-use Rattle.engine.proofs.Known.{written-fits, written-short}
+use Rattle.laws.proofs.Listed.{written-fits, written-short}
 use borrow.Author.Needs.{needs}
-use Rattle.engine.proofs.fill.Statement.{statement}
-use Rattle.engine.proofs.fill.Tie as tie
+use Rattle.flags.proofs.fill.Statement.{statement}
+use Rattle.flags.proofs.fill.Tie as tie
 
 count-requires : tie.Need-count-requires
 count-requires c κs = search needs
@@ -11,7 +11,7 @@ returns : tie.Need-returns
 returns c = (c .before .count .ensures, written-short _ _ (omega arith))
 
 write-requires : tie.Need-write-requires
-write-requires c κs = let q = c .before .before .before .before .before .pre in (q .0, (q .1, omega arith))
+write-requires c κs = (omega arith, omega arith)
 
 same-length : tie.Need-same-length
 same-length c = search needs
