@@ -1,20 +1,84 @@
--- The rows that have a step, from the tables. Assumes nothing.
-use Prim.Native.Nat.{ℕ}
-use mathlib.Core.Path.{_≡_, ap, _∙_}
-use mathlib.Core.List.{List}
-use Rattle.laws.specs.Listed.{listed}
-use Rattle.laws.proofs.Listed.{listed-same}
+-- The rows that have a step and the JOINs in front, from the tables, and the rows that a state waits for. Assumes nothing.
+use Prim.Native.Nat.{ℕ, _*_}
+use mathlib.Core.Path.{_≡_, refl, sym, ap, _∙_}
+use mathlib.Core.Bool.{Bool, true, false, _&&_}
+use mathlib.Core.List.{List, [], _∷_}
+use native.Mathlib.Omega.{arith}
+use lib.Dec.{eqb}
+use lib.ListN.{getD, length}
+use borrow.Author.Tests.{lt-ltb, eq-eqb}
+use Rattle.laws.specs.Listed.{listed, written}
+use Rattle.laws.proofs.Tests.{and-false}
+use Rattle.laws.proofs.Listed.{listed-same, written-fits}
+use Rattle.calculus.specs.Process.{act, out, join}
+use Rattle.steps.specs.Rows.{Row, NIL, PREFIX, BRANCH, isJoinPrefix, isJoin}
+use Rattle.steps.specs.Marks.{stand}
+use Rattle.steps.specs.InFront.{waitsBy, waiting, reached, inFront}
 use Rattle.sheet.specs.Table.{Table}
 use Rattle.sheet.specs.Accepted.{WellFormed}
+use Rattle.sheet.proofs.Rows.{row-join}
 use Rattle.state.specs.declared.State.{State}
-use Rattle.moves.specs.Steps.{hasStep, listedOf}
+use Rattle.moves.specs.Steps.{marksOf, nodes, hasStep, listedOf}
+use Rattle.moves.specs.Standing.{joinInFront, joinsOf, waitingBy, waitingOf}
 use Rattle.flags.specs.Flags.{flagged, Shows}
-use Rattle.flags.proofs.Shown.{shown-listed}
-use Rattle.engine.specs.ByValue.{isStep, stepFrom}
-use Rattle.engine.proofs.Known.{Knows, kind-known, kind-step}
+use Rattle.flags.proofs.Shown.{shown, shown-listed}
+use Rattle.engine.specs.ByValue.{isStep, stepFrom, joinFrom}
+use Rattle.engine.proofs.Known.{Knows, asked-reached, kind-known, kind-step}
+
+-- a JOIN in front, by the kind of the row
+module _ (ts marks seen : List ℕ) (r : ℕ) where
+  pub join-other : eqb (getD ts (r * 4) 0) 3 ≡ false → false ≡ joinFrom ts marks seen r
+  unfolding joinFrom
+  join-other e = rw (row-join ts r ∙ e) (sym (and-false (flagged seen r)))
+
+  pub join-there : getD ts (r * 4) 0 ≡ 3 → (waits : Bool) → waits ≡ waitsBy (stand (getD marks r 0)) → (flagged seen r && waits) ≡ joinFrom ts marks seen r
+  unfolding joinFrom
+  join-there e waits f = rw (row-join ts r ∙ eq-eqb _ 3 e, f) refl
+
+front-join : (N : Row) (m : ℕ) (b : Bool) → (b && (isJoin N && waitsBy (stand m))) ≡ (b && waiting N m && isJoin N)
+unfolding waiting isJoin isJoinPrefix
+front-join N m false = refl
+front-join NIL m true = refl
+front-join (PREFIX (act a) c) m true = sym (and-false (waitsBy (stand m)))
+front-join (PREFIX (out l v) c) m true = sym (and-false (waitsBy (stand m)))
+front-join (PREFIX (join q) c) m true = at (waitsBy (stand m))
+  where
+    at : (b : Bool) → b ≡ (b && true)
+    at true = refl
+    at false = refl
+front-join (BRANCH κ p q) m true = sym (and-false (waiting (BRANCH κ p q) m))
 
 -- the flagged rows are document 01's
 module _ (t : Table) (s : State) (seen vals : List ℕ) (k : Knows t s seen vals) (flags : List ℕ) where
   pub steps-known : WellFormed t → Shows (stepFrom (t .terms) (t .n) (s .mode) (s .marks) seen vals) (t .n) flags → listed (flagged flags) 0 (t .n) ≡ listedOf t s
   unfolding stepFrom listedOf
   steps-known w g = shown-listed _ (t .n) flags g ∙ listed-same _ (hasStep t s) 0 (t .n) (λ r a h. ap isStep (kind-known t w s seen vals k r) ∙ kind-step t s r)
+
+  pub joins-known : Shows (joinFrom (t .terms) (s .marks) seen) (t .n) flags → listed (flagged flags) 0 (t .n) ≡ joinsOf t s
+  unfolding joinFrom joinsOf joinInFront inFront
+  joins-known g =
+      shown-listed _ (t .n) flags g
+      ∙ listed-same _ (joinInFront t s) 0 (t .n) (λ r a h.
+      ap (λ (b : Bool). b && (isJoin (nodes t r) && waitsBy (stand (marksOf s r)))) (shown _ (t .n) seen (k .seen-shows) r (omega arith) ∙ asked-reached (nodes t) (marksOf s) r)
+      ∙ (front-join (nodes t r) (marksOf s r) (reached (nodes t) (marksOf s) r) ∙ rw (lt-ltb r (t .n) (omega arith)) refl))
+
+-- where a step is listed a state waits for nothing, and nothing is written; where none is, for the JOINs in front
+module _ (t : Table) (s : State) (steps : ℕ) (e : steps ≡ length (listedOf t s)) where
+  waits-none : (steps ≡ 0 → ⊥) → waitingOf t s ≡ []
+  unfolding waitingOf waitingBy
+  waits-none h = at (listedOf t s) e
+    where
+      at : (xs : List ℕ) → steps ≡ length xs → waitingBy xs (joinsOf t s) ≡ []
+      at [] z = absurd (h z)
+      at (x ∷ xs) z = refl
+
+  pub waits-joins : steps ≡ 0 → waitingOf t s ≡ joinsOf t s
+  unfolding waitingOf waitingBy
+  waits-joins h = at (listedOf t s) e
+    where
+      at : (xs : List ℕ) → steps ≡ length xs → waitingBy xs (joinsOf t s) ≡ joinsOf t s
+      at [] z = refl
+      at (x ∷ xs) z = absurd (omega arith)
+
+  pub nothing-waits : (steps ≡ 0 → ⊥) → (lent : List ℕ) → (0 ≡ length (waitingOf t s)) × (lent ≡ written (waitingOf t s) lent)
+  nothing-waits h lent = rw (waits-none h) (refl, written-fits [] lent lent (omega arith) refl)

@@ -7,9 +7,9 @@ use lib.ListN.{getD}
 use Rattle.laws.specs.Tests.{bit}
 use Rattle.calculus.specs.Process.{Prefix, act, out, join}
 use Rattle.calculus.specs.Places.{cleans}
-use Rattle.steps.specs.Rows.{Row, NIL, PREFIX, BRANCH}
-use Rattle.steps.specs.Marks.{Marks}
-use Rattle.steps.specs.InFront.{waitingStep}
+use Rattle.steps.specs.Rows.{Row, NIL, PREFIX, BRANCH, isJoin}
+use Rattle.steps.specs.Marks.{Marks, stand}
+use Rattle.steps.specs.InFront.{waitsBy, waitingStep}
 use Rattle.sheet.specs.Table.{Table, rowAt}
 use Rattle.evaluate.specs.Values.{valueIn}
 use Rattle.state.specs.declared.State.{State}
@@ -45,6 +45,10 @@ isStep (Refused a b) = false
 -- the row has a step, from the tables of marks, of what is reached, of values
 unfoldable pub stepFrom : List ℕ → ℕ → ℕ → List ℕ → List ℕ → List ℕ → ℕ → Bool
 stepFrom ts n mode marks seen vals r = isStep (kindFrom ts n mode (λ k. getD marks k 0) (flagged seen) (valueIn vals) r)
+
+-- the row is a JOIN in front, from the tables of marks and of what is reached
+unfoldable pub joinFrom : List ℕ → List ℕ → List ℕ → ℕ → Bool
+joinFrom ts marks seen r = flagged seen r && (isJoin (rowAt ts r) && waitsBy (stand (getD marks r 0)))
 
 -- the kind that was taken, or 11 and the row; and the state after
 unfoldable pub takenAnswer : Table → State → ℕ → Stepped

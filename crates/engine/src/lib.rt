@@ -1,4 +1,4 @@
-// The step of a row in a state, the list of steps, and taking one, for an accepted table.
+// The step of a row in a state, the list of steps, taking one, and how a state stands, for an accepted table.
 ghost use mathlib.Core.Path.{_≡_};
 ghost use Prim.Native.Nat.{_+_, _*_, _<_, _≤_};
 ghost use lib.ListN.{length, getD};
@@ -7,8 +7,9 @@ ghost use Rattle.sheet.specs.Table.{tableOf, rowAt};
 ghost use Rattle.sheet.specs.Accepted.{WellFormed};
 ghost use Rattle.evaluate.specs.Values.{valueIn};
 ghost use Rattle.moves.specs.Steps.{kindAt, listedOf};
+ghost use Rattle.moves.specs.Standing.{waitingOf};
 ghost use Rattle.flags.specs.Flags.{flagged, Shows};
-ghost use Rattle.engine.specs.ByValue.{joinKind, rowKind, kindFrom, isStep, stepFrom, takenAnswer};
+ghost use Rattle.engine.specs.ByValue.{joinKind, rowKind, kindFrom, isStep, stepFrom, joinFrom, takenAnswer};
 use evaluate::Values;
 use sheet::Head;
 use state::State;
@@ -19,6 +20,12 @@ pub struct Stepped {
     pub ok: bool,
     pub answer: StepKind,
     pub state: State,
+}
+
+// How many rows have a step, and how many rows a state waits for.
+pub struct Standing {
+    pub steps: usize,
+    pub waiting: usize,
 }
 
 // A JOIN in front, by the value of its condition.
@@ -174,4 +181,47 @@ pub fn list(h: Head, ts: &[u8], cs: &[u8], s: State, out: &mut [u8]) -> usize
     let mut flags = [0; 256];
     show_steps(&mut flags, ts, h.n, s.mode, &s.marks, &reached, &vals);
     flags::fill(&flags, h.n, out)
+}
+
+// A JOIN in front.
+fn join_in_front(ts: &[u8], marks: &[u8; 256], reached: &[u8; 256], row: usize) -> bool
+    requires { ⌜ (row * 4 + 4 ≤ length (now ts)) × (row < 256) ⌝ }
+    ensures { λ r. ⌜ r ≡ joinFrom (now (ts .entry)) (now (marks .entry)) (now (reached .entry)) row ⌝ }
+{
+    if ts[row * 4] != 3 {
+        return false;
+    }
+    (reached[row] == 1) & front::waits(marks[row])
+}
+
+// Flags the JOINs in front.
+fn show_joins(flags: &mut [u8; 256], ts: &[u8], n: usize, marks: &[u8; 256], reached: &[u8; 256])
+    requires { ⌜ (length (now flags) ≡ 256) × ((n * 4 ≤ length (now ts)) × (n ≤ 256)) ⌝ }
+    ensures { λ _. ⌜ Shows (joinFrom (now (ts .entry)) (now (marks .entry)) (now (reached .entry))) n (now (flags .exit)) ⌝ }
+{
+    let mut i = 0;
+    while i < n {
+        flags[i] = join_in_front(ts, marks, reached, i) as u8;
+        i += 1;
+    }
+}
+
+// How a state stands; the rows that it waits for go to a lent buffer, and one that is too short is left as it is.
+pub fn stand(h: Head, ts: &[u8], cs: &[u8], s: State, out: &mut [u8]) -> Standing
+    requires { ⌜ WellFormed (tableOf h (now ts) (now cs)) ⌝ }
+    ensures { λ r. ⌜ (r .steps ≡ length (listedOf (tableOf h (now (ts .entry)) (now (cs .entry))) s)) × ((r .waiting ≡ length (waitingOf (tableOf h (now (ts .entry)) (now (cs .entry))) s)) × (now (out .exit) ≡ written (waitingOf (tableOf h (now (ts .entry)) (now (cs .entry))) s) (now (out .entry)))) ⌝ }
+{
+    let reached = front::ask(front::REACHED, ts, h.n, &s.marks);
+    let vals = evaluate::values(h.evaluation, cs, h.k, &s.links);
+    let mut flags = [0; 256];
+    show_steps(&mut flags, ts, h.n, s.mode, &s.marks, &reached, &vals);
+    let steps = flags::count(&flags, h.n);
+    if steps != 0 {
+        return Standing { steps, waiting: 0 };
+    }
+    show_joins(&mut flags, ts, h.n, &s.marks, &reached);
+    Standing {
+        steps,
+        waiting: flags::fill(&flags, h.n, out),
+    }
 }

@@ -22,7 +22,7 @@ use Rattle.calculus.specs.Status.{Value, Links}
 use Rattle.calculus.specs.Places.{Turn, takes, drops, Mode}
 use Rattle.calculus.specs.Steps.{turnOf}
 use Rattle.conditions.specs.Conditions.{value}
-use Rattle.steps.specs.Rows.{Row, NIL, PREFIX, BRANCH, firstOf, secondOf, termBy, term}
+use Rattle.steps.specs.Rows.{Row, NIL, PREFIX, BRANCH, firstOf, secondOf, termBy, term, isJoin}
 use Rattle.steps.specs.Marks.{Marks, remainder}
 use Rattle.steps.specs.InFront.{names, parentOf, rightOf, waiting, waitingStep, leads, inheritedBy, inherited, reached, inFront}
 use Rattle.sheet.specs.Table.{Table, cut, rowAt, evaluationOf, evalIn}
@@ -31,6 +31,7 @@ use Rattle.sheet.proofs.Beyond.{row-same, condition-same}
 use Rattle.state.specs.declared.State.{State}
 use Rattle.state.specs.State.{decideOf}
 use Rattle.moves.specs.Steps.{modeOf, marksOf, linksOf, nodes, remainderIn, turnBy, turnAt, kindTurned, kindAt, isSome, hasStep, listedOf, falsified, otherOf, decidedOf, climbBy, idle, climbed, takenOf, droppedOf, steppedBy, steppedOf}
+use Rattle.moves.specs.Standing.{joinInFront, joinsOf}
 use Rattle.moves.specs.Fits.{suits, markOk, held, waitOk, keeps, live, clearRow, clearOk, marksFit, linksFit, waitsFit, clearFit, fitChecks}
 
 front-out : (node : ℕ → Row) (μ : Marks) (n r : ℕ) → n ≤ r → inFront node μ n r ≡ false
@@ -180,6 +181,10 @@ module _ (t : Table) (w : WellFormed t) (s : State) where
   pub cut-listed : listedOf t s ≡ listedOf (cut t) s
   unfolding listedOf
   cut-listed = listed-same (hasStep t s) (hasStep (cut t) s) 0 (t .n) (λ r a b. has-same r)
+
+  pub cut-joins : joinsOf t s ≡ joinsOf (cut t) s
+  unfolding joinsOf joinInFront
+  cut-joins = listed-same (joinInFront t s) (joinInFront (cut t) s) 0 (t .n) (λ r a b. ap₂ (λ (f : Bool) (N : Row). f && isJoin N) (front-same (t .n) (t .terms) (cut t .terms) same (marksOf s) r) (same r (omega arith)))
 
   stepped-by : (r : ℕ) → r < t .n → (o : Option Turn) → steppedBy t s r o ≡ steppedBy (cut t) s r o
   unfolding steppedBy

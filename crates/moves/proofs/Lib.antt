@@ -11,6 +11,7 @@ pub mod Clear
 pub mod Small
 pub mod Fits
 pub mod Beyond
+pub mod Standing
 pub mod Runs
 pub mod Kept
 pub mod Alike

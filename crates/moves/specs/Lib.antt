@@ -1,4 +1,5 @@
 pub mod Steps
+pub mod Standing
 pub mod Above
 pub mod Fits
 pub mod Runs

@@ -24,6 +24,7 @@ use Rattle.state.specs.declared.State.{State}
 use Rattle.state.specs.declared.StepKind.{StepKind}
 use Rattle.state.specs.declared.StepKind.the-variants.{Clean}
 use Rattle.moves.specs.Steps.{marksOf, Sized, nodes, turnAt, kindTurned, kindAt, hasStep, listedOf, steppedOf}
+use Rattle.moves.specs.Standing.{joinInFront, joinsOf, waitingBy, waitingOf}
 use Rattle.moves.specs.Runs.{Taken}
 use Rattle.moves.specs.Runs.{Run as Steps, done as ended, take as stepping, taken as stepsTaken, last as lastState}
 use Rattle.moves.proofs.Allowed.{listed-rows}
@@ -35,10 +36,12 @@ use Rattle.fitting.proofs.Fitted.{fits-accepted, accepts-fitting}
 use Rattle.engine.specs.declared.Stepped.{Stepped}
 use Rattle.engine.specs.ByValue.{takenAnswer}
 use Rattle.engine.proofs.Known.{kind-step}
-use Rattle.sheet_engine.specs.Answers.{listAnswer, callChecks, listBuffer, kindAnswer, stepAnswer}
-use Rattle.sheet_engine.specs.Values.{sizeValues, stepValues}
-use Rattle.sheet_engine.proofs.Steps.{table-first, state-then, kind-refused, kind-given, step-refused, step-given, list-refused, list-given}
-use Rattle.promises.specs.Calls.{Accepted, countOf, listedIn, listedRows, Run, done, more, taken, last}
+use Rattle.sheet_engine.specs.declared.StandingAnswer.{StandingAnswer}
+use Rattle.sheet_engine.specs.Answers.{listAnswer, callChecks, listBuffer, standingOf, standingAnswer, standingBuffer, kindAnswer, stepAnswer}
+use Rattle.sheet_engine.specs.Values.{sizeValues, standingValues, stepValues}
+use Rattle.sheet_engine.proofs.Steps.{table-first, state-then, kind-refused, kind-given, step-refused, step-given, list-refused, list-given, stand-refused, stand-given}
+use Rattle.sheet_engine.proofs.Stands.{stands-rows}
+use Rattle.promises.specs.Calls.{Accepted, countOf, listedIn, listedRows, waitingIn, waitingRows, Run, done, more, taken, last}
 
 -- what acceptance of the table gives
 pub formed : {t : Table} {s : State} → Accepted t s → WellFormed t
@@ -98,6 +101,30 @@ module _ (t : Table) (s : State) where
     pub rows-are : listedRows t s ≡ listedOf t s
     rows-are = listed-is (replicate 256 0) (omega (arith, few-listed, length-replicate {A = ℕ} 256 0))
 
+    -- how the state stands, and the rows that it waits for, one byte each and no more
+    pub standing-is : (lent : List ℕ) → length (waitingOf t s) ≤ length lent → (standingAnswer t s (length lent) ≡ standingOf t s) × (standingBuffer t s lent ≡ waitingOf t s ++ drop (length (waitingOf t s)) lent)
+    standing-is lent h =
+        let (c, b) = stand-given t s refusal refl lent (waitingOf t s ++ drop (length (waitingOf t s)) lent) (length (waitingOf t s)) e refl (written-fits (waitingOf t s) lent _ h refl) h (standingOf t s) refl in
+        (sym c, sym b)
+
+    pub waiting-is : (lent : List ℕ) → length (waitingOf t s) ≤ length lent → waitingIn t s lent ≡ waitingOf t s
+    unfolding waitingIn
+    waiting-is lent h = let (c, b) = standing-is lent h in ap₂ (λ (a : StandingAnswer) (out : List ℕ). take (standingValues a .rows) out) c b ∙ take-at (waitingOf t s) _ _ (sym (stands-rows t s .1))
+
+    pub few-waiting : length (waitingOf t s) ≤ 256
+    unfolding waitingOf joinsOf waitingBy
+    few-waiting = at (listedOf t s)
+      where
+        at : (steps : List ℕ) → length (waitingBy steps (joinsOf t s)) ≤ 256
+        at [] = omega (arith, listed-length (joinInFront t s) 0 (t .n), well-formed t (meets t table-accepted) .few-terms)
+        at (x ∷ steps) = omega arith
+
+    pub standing-as : standingAnswer t s 256 ≡ standingOf t s
+    standing-as = standing-is (replicate 256 0) few-waiting .0
+
+    pub waiting-are : waitingRows t s ≡ waitingOf t s
+    waiting-are = waiting-is (replicate 256 0) few-waiting
+
     pub row-listed : (r : ℕ) → List·Memᴰ r (listedRows t s) ↔ (hasStep t s r ≡ true)
     row-listed r = subst (λ (l : List ℕ). List·Memᴰ r l ↔ (hasStep t s r ≡ true)) (sym rows-are) (listed-rows t s r)
 
@@ -127,6 +154,10 @@ module _ (t : Table) (s : State) where
     unfolding listedIn
     none-listed lent = ap (λ (n : SizeAnswer). take (countOf n) (listBuffer t s lent)) (sym (list-refused t s refusal refl lent h .0))
 
+    none-waiting : (lent : List ℕ) → waitingIn t s lent ≡ []
+    unfolding waitingIn
+    none-waiting lent = ap (λ (a : StandingAnswer). take (standingValues a .rows) (standingBuffer t s lent)) (sym (stand-refused t s refusal refl lent h .0))
+
     none-taken : (r : ℕ) → stepAnswer t s r .ok ≡ false
     none-taken r = ap (λ (k : Stepped). k .ok) (sym (step-refused t s refusal refl r h))
 
@@ -146,6 +177,15 @@ module _ (t : Table) (s : State) where
       (λ e. rw (rows-are e) (listed-is e lent (rw (rows-are e) at room)))
       (λ h. none-listed h lent ∙ sym (none-listed h (replicate 256 0)))
 
+  pub waiting-in : (C : List ℕ → Type 0) (lent : List ℕ) → C [] → (refusal .number ≡ 0 → C (waitingIn t s lent)) → C (waitingIn t s lent)
+  waiting-in C lent nothing answered = by-cases (ℕ-discrete (refusal .number) 0) answered (λ h. subst C (sym (none-waiting h lent)) nothing)
+
+  pub waiting-any : (lent : List ℕ) → length (waitingRows t s) ≤ length lent → waitingIn t s lent ≡ waitingRows t s
+  waiting-any lent room =
+      by-cases (ℕ-discrete (refusal .number) 0)
+      (λ e. rw (waiting-are e) (waiting-is e lent (rw (waiting-are e) at room)))
+      (λ h. none-waiting h lent ∙ sym (none-waiting h (replicate 256 0)))
+
   -- of a state of the right size, an answer that is no refusal says that it is accepted
   module _ (size : Sized s) where
     told : (number : ℕ) → ((refusal .number ≡ 0 → ⊥) → refusal .number ≡ number) → number ≡ 0 → Accepted t s
@@ -153,6 +193,9 @@ module _ (t : Table) (s : State) where
 
     pub list-unrefused : (lent : List ℕ) → sizeValues (listAnswer t s (length lent)) .refusal ≡ 0 → Accepted t s
     list-unrefused lent = told _ (λ h. ap (λ (n : SizeAnswer). sizeValues n .refusal) (list-refused t s refusal refl lent h .0))
+
+    pub standing-unrefused : (lent : List ℕ) → standingValues (standingAnswer t s (length lent)) .refusal ≡ 0 → Accepted t s
+    standing-unrefused lent = told _ (λ h. ap (λ (a : StandingAnswer). standingValues a .refusal) (stand-refused t s refusal refl lent h .0))
 
     pub kind-unrefused : (r : ℕ) → stepValues (kindAnswer t s r) .refusal ≡ 0 → Accepted t s
     kind-unrefused r = told _ (λ h. ap (λ (k : StepKind). stepValues k .refusal) (kind-refused t s refusal refl r h))

@@ -23,6 +23,7 @@ use Rattle.sheet_engine.proofs.write_sheet as write-sheet
 use Rattle.sheet_engine.proofs.give_verdict as give-verdict
 use Rattle.sheet_engine.proofs.start as start
 use Rattle.sheet_engine.proofs.list_steps as list-steps
+use Rattle.sheet_engine.proofs.standing as standing
 use Rattle.sheet_engine.proofs.step_kind as step-kind
 use Rattle.sheet_engine.proofs.take_step as take-step
 use Rattle.sheet_engine.proofs.step_in_place as step-in-place
@@ -41,17 +42,20 @@ use Rattle.state.specs.declared.StepKind.{StepKind}
 use Rattle.state.specs.declared.StepKind.the-variants as kind
 use Rattle.state.specs.State.{freshOf}
 use Rattle.moves.specs.Steps.{kindAt, listedOf, steppedOf}
+use Rattle.moves.specs.Standing.{waitingOf}
 use Rattle.engine.specs.declared.Stepped.{Stepped}
 use Rattle.verdict.specs.Verdict.{verdictOf}
 use Rattle.sheet_engine.specs.declared.VerdictAnswer.the-variants as verdict
-use Rattle.sheet_engine.specs.Answers.{given, verdictAnswer, startChecks, started, notStarted, startAnswer, listChecks, listAnswer, listBuffer, kindAnswer, notTaken, stepAnswer}
+use Rattle.sheet_engine.specs.declared.StandingAnswer.{StandingAnswer}
+use Rattle.sheet_engine.specs.declared.StandingAnswer.the-variants as stands
+use Rattle.sheet_engine.specs.Answers.{given, verdictAnswer, startChecks, started, notStarted, startAnswer, listChecks, listAnswer, listBuffer, standingOf, standingChecks, standingAnswer, standingBuffer, kindAnswer, notTaken, stepAnswer}
 use Rattle.sheet_engine.specs.Values.{rowChecks, wasTaken}
 use Rattle.promises.specs.Contracts.{AsksNothing}
 use Rattle.promises.specs.Refused.{Answered, readChecks}
 use Rattle.promises.proofs.Refused.{answered, both-answered, map-answered, sheet-answered, kind-answered, step-answered}
 -- ... each answer once more by document 01's number and values, where a refusal has 0 in all other places; and that no second answer fits the contract of a call
-pub use Rattle.sheet_engine.proofs.Values.{read-answers, write-answers, verdict-answers, list-answers, kind-answers, step-answers}
-pub use Rattle.sheet_engine.proofs.Unique.{read-sheet-one, settings-part-one, terms-part-one, conditions-part-one, judge-table-one, write-sheet-one, give-verdict-one, start-one, list-steps-one, step-kind-one, take-step-one, step-in-place-one}
+pub use Rattle.sheet_engine.proofs.Values.{read-answers, write-answers, verdict-answers, list-answers, standing-answers, kind-answers, step-answers}
+pub use Rattle.sheet_engine.proofs.Unique.{read-sheet-one, settings-part-one, terms-part-one, conditions-part-one, judge-table-one, write-sheet-one, give-verdict-one, start-one, list-steps-one, standing-one, step-kind-one, take-step-one, step-in-place-one}
 
 -- "Every public call ends": each meets its contract, and a contract is met only by code that ends.
 pub every-call-ends : {M : Type 1} → read-sheet.Statement.statement M
@@ -63,6 +67,7 @@ pub every-call-ends : {M : Type 1} → read-sheet.Statement.statement M
     × give-verdict.Statement.statement M
     × start.Statement.statement M
     × list-steps.Statement.statement M
+    × standing.Statement.statement M
     × step-kind.Statement.statement M
     × take-step.Statement.statement M
     × step-in-place.Statement.statement M
@@ -76,6 +81,7 @@ every-call-ends = (
   give-verdict.Met.met,
   start.Met.met,
   list-steps.Met.met,
+  standing.Met.met,
   step-kind.Met.met,
   take-step.Met.met,
   step-in-place.Met.met,
@@ -92,10 +98,12 @@ module _ {M : Type 1} (𝓤 : URA M) (H : Heap 𝓤) (A : Atoms 𝓤) (at-mem : 
       × AsksNothing 𝓤 give-verdict.ended (give-verdict.clauses 𝓤 H A at-mem run)
       × AsksNothing 𝓤 start.ended (start.clauses 𝓤 H A at-mem run)
       × AsksNothing 𝓤 list-steps.ended (list-steps.clauses 𝓤 H A at-mem run)
+      × AsksNothing 𝓤 standing.ended (standing.clauses 𝓤 H A at-mem run)
       × AsksNothing 𝓤 step-kind.ended (step-kind.clauses 𝓤 H A at-mem run)
       × AsksNothing 𝓤 take-step.ended (take-step.clauses 𝓤 H A at-mem run)
       × AsksNothing 𝓤 step-in-place.ended (step-in-place.clauses 𝓤 H A at-mem run)
   every-call-takes-any = (
+    λ κs a g P. top 𝓤 P,
     λ κs a g P. top 𝓤 P,
     λ κs a g P. top 𝓤 P,
     λ κs a g P. top 𝓤 P,
@@ -146,6 +154,11 @@ pub list-steps-answers : (t : Table) (s : State) (out : List ℕ) → Answered {
 unfolding listAnswer listBuffer
 list-steps-answers t s out = both-answered size.Refused (size.Size (length (listedOf t s))) (λ number place. out) (written (listedOf t s) out) (listChecks t s (length out))
 
+-- `standing`: how the state stands, and the rows that it waits for at the buffer's front; a refusal leaves the buffer as it was
+pub standing-call-answers : (t : Table) (s : State) (out : List ℕ) → Answered {A = StandingAnswer × List ℕ} (λ number place. (stands.Refused number place, out)) (standingOf t s, written (waitingOf t s) out) (standingChecks t s (length out)) (standingAnswer t s (length out), standingBuffer t s out)
+unfolding standingAnswer standingBuffer
+standing-call-answers t s out = both-answered stands.Refused (standingOf t s) (λ number place. out) (written (waitingOf t s) out) (standingChecks t s (length out))
+
 -- `step_kind`: the kind
 pub step-kind-answers : (t : Table) (s : State) (row : ℕ) → Answered kind.Refused (kindAt t s row) (rowChecks t s row) (kindAnswer t s row)
 step-kind-answers = kind-answered
@@ -180,5 +193,6 @@ pub in-order :
     × ((h : Head) (ts cs : List ℕ) (lent : ℕ) → numbers (writeChecks h ts cs lent) ≡ 1 ∷ 3 ∷ 4 ∷ 5 ∷ 6 ∷ 7 ∷ 8 ∷ 12 ∷ [])
     × ((t : Table) (mode : ℕ) → numbers (startChecks t mode) ≡ 1 ∷ 3 ∷ 4 ∷ 5 ∷ 6 ∷ 7 ∷ 8 ∷ 9 ∷ [])
     × ((t : Table) (s : State) (lent : ℕ) → numbers (listChecks t s lent) ≡ 1 ∷ 3 ∷ 4 ∷ 5 ∷ 6 ∷ 7 ∷ 8 ∷ 9 ∷ 10 ∷ 10 ∷ 10 ∷ 10 ∷ 12 ∷ [])
+    × ((t : Table) (s : State) (lent : ℕ) → numbers (standingChecks t s lent) ≡ 1 ∷ 3 ∷ 4 ∷ 5 ∷ 6 ∷ 7 ∷ 8 ∷ 9 ∷ 10 ∷ 10 ∷ 10 ∷ 10 ∷ 12 ∷ [])
     × ((t : Table) (s : State) (row : ℕ) → numbers (rowChecks t s row) ≡ 1 ∷ 3 ∷ 4 ∷ 5 ∷ 6 ∷ 7 ∷ 8 ∷ 9 ∷ 10 ∷ 10 ∷ 10 ∷ 10 ∷ 11 ∷ [])
-in-order = (λ s. refl, λ t. refl, λ h ts cs lent. refl, λ t mode. refl, λ t s lent. refl, λ t s row. refl)
+in-order = (λ s. refl, λ t. refl, λ h ts cs lent. refl, λ t mode. refl, λ t s lent. refl, λ t s lent. refl, λ t s row. refl)

@@ -3,6 +3,7 @@ use Prim.Native.Nat.{ℕ, _≤_}
 use mathlib.Core.Path.{_≡_}
 use mathlib.Core.Bool.{true}
 use mathlib.Core.List.{List, [], _∷_, map, List·Memᴰ}
+use mathlib.Core.Logic.{_⊎_}
 use lib.ListN.{getD, length, take, replicate}
 use Rattle.calculus.specs.Process.{Process}
 use Rattle.calculus.specs.Status.{Links}
@@ -16,10 +17,10 @@ use Rattle.state.specs.declared.State.{State}
 use Rattle.moves.specs.Steps.{modeOf, linksOf, Sized, leftIn}
 use Rattle.moves.specs.Fits.{Fits}
 use Rattle.moves.specs.Runs.{Taken}
-use Rattle.sheet_engine.specs.Answers.{verdictAnswer, startAnswer, listAnswer, listBuffer, kindAnswer, stepAnswer}
-use Rattle.sheet_engine.specs.Values.{VerdictValues, verdictValues}
+use Rattle.sheet_engine.specs.Answers.{verdictAnswer, startAnswer, listAnswer, listBuffer, standingAnswer, standingBuffer, kindAnswer, stepAnswer}
+use Rattle.sheet_engine.specs.Values.{VerdictValues, verdictValues, StandingValues, standingValues}
 
--- A table and a state that a call with a state does not refuse: neither 1 to 8, nor 9, nor 10; and the state is of the right size. Whoever is answered knows all of it from the contract of the call (`list-accepts`, `kind-accepts`, `take-accepts`, `in-place-accepts`).
+-- A table and a state that a call with a state does not refuse: neither 1 to 8, nor 9, nor 10; and the state is of the right size. Whoever is answered knows all of it from the contract of the call (`list-accepts`, `standing-accepts`, `kind-accepts`, `take-accepts`, `in-place-accepts`).
 pub record Accepted (t : Table) (s : State) : Type 0 where
   pub table : refusalOf t .number ≡ 0
   pub mode : s .mode ≤ 1
@@ -43,6 +44,8 @@ pub record SameAnswers (t t′ : Table) : Type 0 where
   pub started : (mode : ℕ) → startAnswer t mode ≡ startAnswer t′ mode
   pub listed : (s : State) (lent : ℕ) → listAnswer t s lent ≡ listAnswer t′ s lent
   pub buffer : (s : State) (lent : List ℕ) → listBuffer t s lent ≡ listBuffer t′ s lent
+  pub standing : (s : State) (lent : ℕ) → standingAnswer t s lent ≡ standingAnswer t′ s lent
+  pub waiting : (s : State) (lent : List ℕ) → standingBuffer t s lent ≡ standingBuffer t′ s lent
   pub kind : (s : State) (row : ℕ) → kindAnswer t s row ≡ kindAnswer t′ s row
   pub stepped : (s : State) (row : ℕ) → stepAnswer t s row ≡ stepAnswer t′ s row
 
@@ -65,6 +68,30 @@ listedIn t s lent = take (countOf (listAnswer t s (length lent))) (listBuffer t 
 -- ... with a buffer of 256 bytes, which no list exceeds
 abbrev pub listedRows : Table → State → List ℕ
 listedRows t s = listedIn t s (replicate 256 0)
+
+-- How a state stands, by document 02's number and values for it: what `standing` answers with a buffer of 256 bytes, which no list of rows exceeds.
+abbrev pub standingIn : Table → State → StandingValues
+standingIn t s = standingValues (standingAnswer t s 256)
+
+abbrev pub Enabled : Table → State → Type 0
+Enabled t s = standingIn t s .word ≡ 1
+
+abbrev pub Finished : Table → State → Type 0
+Finished t s = standingIn t s .word ≡ 2
+
+abbrev pub Waiting : Table → State → Type 0
+Waiting t s = standingIn t s .word ≡ 3
+
+-- The rows that it waits for: of the lent buffer as many bytes as `standing` answers, none where it refuses.
+unfoldable pub waitingIn : Table → State → List ℕ → List ℕ
+waitingIn t s lent = take (standingValues (standingAnswer t s (length lent)) .rows) (standingBuffer t s lent)
+
+abbrev pub waitingRows : Table → State → List ℕ
+waitingRows t s = waitingIn t s (replicate 256 0)
+
+-- exactly one of three
+abbrev pub OneOf : Type 0 → Type 0 → Type 0 → Type 0
+OneOf A B C = (A × (B → ⊥) × (C → ⊥)) ⊎ (((A → ⊥) × B × (C → ⊥)) ⊎ ((A → ⊥) × (B → ⊥) × C))
 
 -- the listed steps, each with its row and the kind that `step_kind` answers
 abbrev pub listedSteps : Table → State → List Taken

@@ -1,4 +1,4 @@
--- Document 01, "Examples on each side": the cases marked P, as one table. A row is a sheet in bytes, what is asked of it, and what the calls answer.
+-- Document 01, "Examples on each side": the cases marked P, and document 02's sheet X, as one table. A row is a sheet in bytes, what is asked of it, and what the calls answer.
 use Prim.Native.Nat.{ℕ, _-_}
 use mathlib.Core.List.{List, [], _∷_, _++_}
 use lib.ListN.{take}
@@ -15,18 +15,22 @@ use Rattle.state.specs.declared.StepKind.the-variants.{Act, Set, Open, Clean}
 use Rattle.moves.specs.Runs.{Taken}
 use Rattle.sheet_engine.specs.declared.VerdictAnswer.{VerdictAnswer}
 use Rattle.sheet_engine.specs.declared.VerdictAnswer.the-variants.{Pass, Fail}
-use Rattle.sheet_engine.specs.Answers.{verdictAnswer, listAnswer, stepAnswer}
-use Rattle.promises.specs.Calls.{freshIn, listedSteps}
+use Rattle.sheet_engine.specs.declared.StandingAnswer.{StandingAnswer}
+use Rattle.sheet_engine.specs.declared.StandingAnswer.the-variants.{Enabled, Finished, Waiting}
+use Rattle.sheet_engine.specs.Answers.{verdictAnswer, listAnswer, standingAnswer, stepAnswer}
+use Rattle.promises.specs.Calls.{freshIn, listedSteps, waitingRows}
 
--- what is asked: the verdict; or what a caller sees who starts the sheet in a mode and takes the steps of some rows
+-- what is asked: the verdict; or what a caller sees who starts the sheet in a mode and takes the steps of some rows; or how the sheet stands then
 pub data Question : Type 0 where
   verdict : Question
   after : (mode : ℕ) (rows : List ℕ) → Question
+  standing : (mode : ℕ) (rows : List ℕ) → Question
 
--- the answers of `take_step` on the way and of `list_steps`, the listed steps with their kinds, and the links of the sheet
+-- the answers of `take_step` on the way and of `list_steps`, the listed steps with their kinds, and the links of the sheet; or the answer of `standing`, with the rows waited for
 pub data Answer : Type 0 where
   Verdict : VerdictAnswer → Answer
   Seen : (took : List StepKind) (answer : SizeAnswer) (steps : List Taken) (links : List ℕ) → Answer
+  Stands : (answer : StandingAnswer) (rows : List ℕ) → Answer
 
 pub record Case : Type 0 where
   pub sheet : List ℕ
@@ -53,8 +57,12 @@ stateAfter t s (row ∷ rows) = stateAfter t (stepAnswer t s row .state) rows
 abbrev pub seenIn : Table → State → List StepKind → Answer
 seenIn t s took = Seen took (listAnswer t s 256) (listedSteps t s) (take (t .m) (s .links))
 
+abbrev pub standsIn : Table → State → Answer
+standsIn t s = Stands (standingAnswer t s 256) (waitingRows t s)
+
 unfoldable pub answerTo : Table → Question → Answer
 answerTo t verdict = Verdict (verdictAnswer t)
+answerTo t (standing mode rows) = standsIn t (stateAfter t (freshIn t mode) rows)
 answerTo t (after mode rows) = seenIn t (stateAfter t (freshIn t mode) rows) (tookAll t (freshIn t mode) rows)
 
 -- sheet X
@@ -104,6 +112,11 @@ cases =
     -- "cleaning, X after 4: link 0 true, row 6 listed as clean", "plain, after 4: nothing"
     of X (after 1 (4 ∷ [])) (Seen (Set 0 1 ∷ []) (Size 1) (at 6 Clean ∷ []) (2 ∷ [])) ∷
     of X (after 0 (4 ∷ [])) (Seen (Set 0 1 ∷ []) (Size 0) [] (2 ∷ [])) ∷
+    -- document 02, request 1: plain waits for row 6 after 2 and after 4; where cleaning goes on after 2, it finishes
+    of X (standing 0 []) (Stands Enabled []) ∷
+    of X (standing 0 (2 ∷ [])) (Stands (Waiting 1) (6 ∷ [])) ∷
+    of X (standing 0 (4 ∷ [])) (Stands (Waiting 1) (6 ∷ [])) ∷
+    of X (standing 1 (2 ∷ 6 ∷ 7 ∷ [])) (Stands Finished []) ∷
     -- "lazy OR of links 0 and 1 passes", "strict, it fails with number 5, link 1"
     of (joinOn 1 3 (LINK 0 ++ LINK 1 ++ OR 0 1)) verdict (Verdict Pass) ∷
     of (joinOn 0 3 (LINK 0 ++ LINK 1 ++ OR 0 1)) verdict (Verdict (Fail 2 5 1)) ∷

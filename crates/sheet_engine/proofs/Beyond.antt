@@ -22,13 +22,15 @@ use Rattle.state.specs.declared.State.{State}
 use Rattle.state.specs.declared.StepKind.the-variants as kind
 use Rattle.state.specs.State.{freshOf}
 use Rattle.moves.specs.Steps.{kindAt, listedOf}
+use Rattle.moves.specs.Standing.{joinsOf, waitingBy, waitingOf}
 use Rattle.moves.specs.Fits.{modeCheck, fitChecks}
-use Rattle.moves.proofs.Beyond.{cut-fits, cut-kind, cut-listed, cut-stepped}
+use Rattle.moves.proofs.Beyond.{cut-fits, cut-kind, cut-listed, cut-joins, cut-stepped}
 use Rattle.engine.specs.ByValue.{takenAnswer}
 use Rattle.verdict.specs.Verdict.{verdictOf}
 use Rattle.verdict.proofs.Beyond.{cut-verdict}
+use Rattle.sheet_engine.specs.declared.StandingAnswer.the-variants as standing
 use Rattle.sheet_engine.specs.declared.VerdictAnswer.the-variants.{Refused}
-use Rattle.sheet_engine.specs.Answers.{given, verdictAnswer, started, notStarted, startAnswer, callChecks, listChecks, listAnswer, listBuffer, kindAnswer, notTaken, stepAnswer}
+use Rattle.sheet_engine.specs.Answers.{given, verdictAnswer, started, notStarted, startAnswer, callChecks, listChecks, listAnswer, listBuffer, standingBy, standingOf, standingChecks, standingAnswer, standingBuffer, kindAnswer, notTaken, stepAnswer}
 
 formed : (t : Table) → AllHold (tableChecks t) → WellFormed t
 unfolding refusalOf
@@ -91,6 +93,14 @@ list-cut answer good t s lent =
     (call-cut answer _ _ t s (λ w. ap (λ (l : List ℕ). checked answer (good l) (room (length l) lent ∷ [])) (cut-listed t w s)) ∙
     sym (checked-append answer (good (listedOf (cut t) s)) (callChecks (cut t) s) (room (length (listedOf (cut t) s)) lent ∷ [])))
 
+-- standing
+stand-cut : {A : Type 0} (answer : ℕ → ℕ → A) (good : List ℕ → List ℕ → A) (t : Table) (s : State) (lent : ℕ) → checked answer (good (listedOf t s) (joinsOf t s)) (standingChecks t s lent) ≡ checked answer (good (listedOf (cut t) s) (joinsOf (cut t) s)) (standingChecks (cut t) s lent)
+unfolding waitingOf
+stand-cut answer good t s lent =
+    checked-append answer (good (listedOf t s) (joinsOf t s)) (callChecks t s) (room (length (waitingOf t s)) lent ∷ []) ∙
+    (call-cut answer _ _ t s (λ w. ap₂ (λ (l j : List ℕ). checked answer (good l j) (room (length (waitingBy l j)) lent ∷ [])) (cut-listed t w s) (cut-joins t w s)) ∙
+    sym (checked-append answer (good (listedOf (cut t) s) (joinsOf (cut t) s)) (callChecks (cut t) s) (room (length (waitingOf (cut t) s)) lent ∷ [])))
+
 module _ (t : Table) (s : State) where
   pub cut-list-answer : (lent : ℕ) → listAnswer t s lent ≡ listAnswer (cut t) s lent
   unfolding listAnswer
@@ -99,6 +109,14 @@ module _ (t : Table) (s : State) where
   pub cut-list-buffer : (lent : List ℕ) → listBuffer t s lent ≡ listBuffer (cut t) s lent
   unfolding listBuffer
   cut-list-buffer lent = list-cut (λ number place. lent) (λ l. written l lent) t s (length lent)
+
+  pub cut-standing-answer : (lent : ℕ) → standingAnswer t s lent ≡ standingAnswer (cut t) s lent
+  unfolding standingAnswer standingOf
+  cut-standing-answer lent = stand-cut standing.Refused standingBy t s lent
+
+  pub cut-standing-buffer : (lent : List ℕ) → standingBuffer t s lent ≡ standingBuffer (cut t) s lent
+  unfolding standingBuffer waitingOf
+  cut-standing-buffer lent = stand-cut (λ number place. lent) (λ xs js. written (waitingBy xs js) lent) t s (length lent)
 
   pub cut-kind-answer : (row : ℕ) → kindAnswer t s row ≡ kindAnswer (cut t) s row
   unfolding kindAnswer

@@ -12,6 +12,7 @@ use lib.ListN.{length}
 use borrow.Author.Tests.{le-leb, lt-leb}
 use Rattle.laws.specs.Checks.{Check, placeOf, checked}
 use Rattle.laws.specs.Listed.{written}
+use Rattle.laws.proofs.Listed.{written-short}
 use Rattle.laws.proofs.Tests.{cases, and-r}
 use Rattle.laws.proofs.Checks.{checked-append}
 use Rattle.calculus.specs.Places.{Turn}
@@ -22,18 +23,22 @@ use Rattle.sheet.specs.Sheet.{room}
 use Rattle.sheet.specs.Accepted.{WellFormed}
 use Rattle.sheet.proofs.Accepted.{meets, well-formed}
 use Rattle.sheet.proofs.Refusals.{numbered, refused-by, accepted-by, table-refused-first, table-accepted-first, one-place-fails, one-place-holds}
+use Rattle.codec.specs.declared.SizeAnswer.{SizeAnswer}
 use Rattle.codec.specs.declared.SizeAnswer.the-variants as size
 use Rattle.state.specs.declared.State.{State}
 use Rattle.state.specs.declared.StepKind.{StepKind}
 use Rattle.state.specs.declared.StepKind.the-variants as kind
 use Rattle.moves.specs.Steps.{nodes, turnAt, kindTurned, kindAt, isSome, hasStep, listedOf, steppedOf}
+use Rattle.moves.specs.Standing.{waitingOf}
 use Rattle.moves.specs.Fits.{modeCheck, fitChecks}
 use Rattle.fitting.specs.Checks.{stateChecks}
 use Rattle.fitting.proofs.Fitted.{state-checks}
 use Rattle.engine.specs.declared.Stepped.{Stepped}
 use Rattle.engine.specs.ByValue.{takenAnswer}
 use Rattle.engine.proofs.Known.{kind-step, answer-refused}
-use Rattle.sheet_engine.specs.Answers.{callChecks, listAnswer, listBuffer, kindAnswer, notTaken, stepAnswer}
+use Rattle.sheet_engine.specs.declared.StandingAnswer.{StandingAnswer}
+use Rattle.sheet_engine.specs.declared.StandingAnswer.the-variants as standing
+use Rattle.sheet_engine.specs.Answers.{callChecks, listAnswer, listBuffer, standingOf, standingAnswer, standingBuffer, kindAnswer, notTaken, stepAnswer}
 use Rattle.sheet_engine.specs.Values.{rowCheck, rowChecks, wasTaken}
 
 -- where none of two lists of checks fails, none of the first does
@@ -80,35 +85,70 @@ module _ (t : Table) (s : State) (r : Refusal) (told : r ≡ checked refuse (ref
   unfolding stepAnswer
   step-given row k e f = f ∙ accepted-call (notTaken s) (takenAnswer t s row) e
 
-  -- listing
-  abbrev need : ℕ
-  need = length (listedOf t s)
-
-  pub list-refused : (lent : List ℕ) → (r .number ≡ 0 → ⊥) → (size.Refused (r .number) (r .place) ≡ listAnswer t s (length lent)) × (lent ≡ listBuffer t s lent)
-  unfolding listAnswer listBuffer
-  list-refused lent h = (
-    refused-call size.Refused (checked size.Refused (size.Size need) (room need (length lent) ∷ [])) h ∙ sym (checked-append size.Refused (size.Size need) (callChecks t s) (room need (length lent) ∷ [])),
-    refused-call (λ number place. lent) (checked (λ number place. lent) (written (listedOf t s) lent) (room need (length lent) ∷ [])) h ∙ sym (checked-append (λ number place. lent) (written (listedOf t s) lent) (callChecks t s) (room need (length lent) ∷ [])),
-  )
-
   after : {A : Type 0} (answer : ℕ → ℕ → A) (good : A) (c : Check) → r .number ≡ 0 → checked answer good (c ∷ []) ≡ checked answer good (callChecks t s ++ (c ∷ []))
   after answer good c e = accepted-call answer (checked answer good (c ∷ [])) e ∙ sym (checked-append answer good (callChecks t s) (c ∷ []))
 
-  pub list-short : (lent out : List ℕ) (n : ℕ) → r .number ≡ 0 → n ≡ need → out ≡ written (listedOf t s) lent → length lent < n → (size.Refused 12 n ≡ listAnswer t s (length lent)) × (out ≡ listBuffer t s lent)
-  unfolding listAnswer listBuffer written
-  list-short lent out n e f g h =
-      let w : length lent < need = omega arith in (
-        ap (size.Refused 12) f ∙ (one-place-fails size.Refused (size.Size need) (room need (length lent)) [] (omega arith) (lt-leb need (length lent) w) ∙ after size.Refused (size.Size need) (room need (length lent)) e),
-        g ∙ (rw (lt-leb need (length lent) w) refl ∙ (one-place-fails (λ number place. lent) (written (listedOf t s) lent) (room need (length lent)) [] (omega arith) (lt-leb need (length lent) w) ∙ after (λ number place. lent) (written (listedOf t s) lent) (room need (length lent)) e)),
+  -- rows to a lent buffer: an answer, and the buffer after
+  module _ (xs lent : List ℕ) {A : Type 0} (answer : ℕ → ℕ → A) (good : A) where
+    abbrev last : Check
+    last = room (length xs) (length lent)
+
+    abbrev Told : A → List ℕ → Type 0
+    Told a out = (a ≡ checked answer good (callChecks t s ++ (last ∷ []))) × (out ≡ checked (λ number place. lent) (written xs lent) (callChecks t s ++ (last ∷ [])))
+
+    rows-refused : (r .number ≡ 0 → ⊥) → Told (answer (r .number) (r .place)) lent
+    rows-refused h = (
+      refused-call answer (checked answer good (last ∷ [])) h ∙ sym (checked-append answer good (callChecks t s) (last ∷ [])),
+      refused-call (λ number place. lent) (checked (λ number place. lent) (written xs lent) (last ∷ [])) h ∙ sym (checked-append (λ number place. lent) (written xs lent) (callChecks t s) (last ∷ [])),
+    )
+
+    module _ (e : r .number ≡ 0) (out : List ℕ) (g : out ≡ written xs lent) where
+      rows-short : length lent < length xs → Told (answer 12 (length xs)) out
+      rows-short h = (
+        one-place-fails answer good last [] (omega arith) (lt-leb (length xs) (length lent) h) ∙ after answer good last e,
+        g ∙ (sym (written-short xs lent h) ∙ (one-place-fails (λ number place. lent) (written xs lent) last [] (omega arith) (lt-leb (length xs) (length lent) h) ∙ after (λ number place. lent) (written xs lent) last e)),
       )
 
-  pub list-given : (lent out : List ℕ) (n : ℕ) → r .number ≡ 0 → n ≡ need → out ≡ written (listedOf t s) lent → n ≤ length lent → (size.Size n ≡ listAnswer t s (length lent)) × (out ≡ listBuffer t s lent)
-  unfolding listAnswer listBuffer checked
-  list-given lent out n e f g h =
-      let w : need ≤ length lent = omega arith in (
-        ap size.Size f ∙ (one-place-holds size.Refused (size.Size need) (room need (length lent)) [] refl (le-leb need (length lent) w) ∙ after size.Refused (size.Size need) (room need (length lent)) e),
-        g ∙ (one-place-holds (λ number place. lent) (written (listedOf t s) lent) (room need (length lent)) [] refl (le-leb need (length lent) w) ∙ after (λ number place. lent) (written (listedOf t s) lent) (room need (length lent)) e),
+      rows-given : length xs ≤ length lent → Told good out
+      unfolding checked
+      rows-given h = (
+        one-place-holds answer good last [] refl (le-leb (length xs) (length lent) h) ∙ after answer good last e,
+        g ∙ (one-place-holds (λ number place. lent) (written xs lent) last [] refl (le-leb (length xs) (length lent) h) ∙ after (λ number place. lent) (written xs lent) last e),
       )
+
+  -- listing
+  abbrev Lists : List ℕ → SizeAnswer → List ℕ → Type 0
+  Lists lent a out = (a ≡ listAnswer t s (length lent)) × (out ≡ listBuffer t s lent)
+
+  pub list-refused : (lent : List ℕ) → (r .number ≡ 0 → ⊥) → Lists lent (size.Refused (r .number) (r .place)) lent
+  unfolding listAnswer listBuffer
+  list-refused lent h = rows-refused (listedOf t s) lent size.Refused (size.Size (length (listedOf t s))) h
+
+  module _ (lent out : List ℕ) (n : ℕ) (e : r .number ≡ 0) (f : n ≡ length (listedOf t s)) (g : out ≡ written (listedOf t s) lent) where
+    pub list-short : length lent < n → Lists lent (size.Refused 12 n) out
+    unfolding listAnswer listBuffer
+    list-short h = rw f (rows-short (listedOf t s) lent size.Refused (size.Size (length (listedOf t s))) e out g (omega arith))
+
+    pub list-given : n ≤ length lent → Lists lent (size.Size n) out
+    unfolding listAnswer listBuffer
+    list-given h = rw f (rows-given (listedOf t s) lent size.Refused (size.Size (length (listedOf t s))) e out g (omega arith))
+
+  -- standing
+  abbrev Stands : List ℕ → StandingAnswer → List ℕ → Type 0
+  Stands lent a out = (a ≡ standingAnswer t s (length lent)) × (out ≡ standingBuffer t s lent)
+
+  pub stand-refused : (lent : List ℕ) → (r .number ≡ 0 → ⊥) → Stands lent (standing.Refused (r .number) (r .place)) lent
+  unfolding standingAnswer standingBuffer
+  stand-refused lent h = rows-refused (waitingOf t s) lent standing.Refused (standingOf t s) h
+
+  module _ (lent out : List ℕ) (n : ℕ) (e : r .number ≡ 0) (f : n ≡ length (waitingOf t s)) (g : out ≡ written (waitingOf t s) lent) where
+    pub stand-short : length lent < n → Stands lent (standing.Refused 12 n) out
+    unfolding standingAnswer standingBuffer
+    stand-short h = rw f (rows-short (waitingOf t s) lent standing.Refused (standingOf t s) e out g (omega arith))
+
+    pub stand-given : n ≤ length lent → (a : StandingAnswer) → a ≡ standingOf t s → Stands lent a out
+    unfolding standingAnswer standingBuffer
+    stand-given h a q = rw q (rows-given (waitingOf t s) lent standing.Refused (standingOf t s) e out g (omega arith))
 
 -- an accepted call's table is well formed
 pub call-formed : (t : Table) (s : State) (r : Refusal) → r ≡ checked refuse (refuse 0 0) (callChecks t s) → r .number ≡ 0 → WellFormed t

@@ -36,10 +36,12 @@ use Rattle.engine.specs.declared.Stepped.{Stepped}
 use Rattle.engine.specs.ByValue.{takenAnswer}
 use Rattle.verdict.specs.Verdict.{verdictOf}
 use Rattle.sheet_engine.specs.declared.VerdictAnswer.the-variants.{Refused}
-use Rattle.sheet_engine.specs.Answers.{given, verdictAnswer, callChecks, listChecks, listAnswer, kindAnswer, notTaken, stepAnswer}
-use Rattle.sheet_engine.specs.Values.{VerdictValues, verdictValues, SheetValues, sheetValues, SizeValues, sizeValues, StepValues, stepValues, shownBy, shown, rowCheck, rowChecks, Answers}
+use Rattle.sheet_engine.specs.declared.StandingAnswer.the-variants as standing
+use Rattle.sheet_engine.specs.Answers.{given, verdictAnswer, callChecks, listChecks, listAnswer, standingOf, standingChecks, standingAnswer, kindAnswer, notTaken, stepAnswer}
+use Rattle.sheet_engine.specs.Values.{VerdictValues, verdictValues, SheetValues, sheetValues, SizeValues, sizeValues, StandingValues, standingValues, StepValues, stepValues, shownBy, shown, rowCheck, rowChecks, Answers}
 use Rattle.sheet_engine.proofs.Promises.{given-unrefused}
 use Rattle.sheet_engine.proofs.Steps.{no-kind}
+use Rattle.sheet_engine.proofs.Stands.{stands-rows}
 
 -- every check holds where none gives its number
 all-held : (cs : List Check) → numbered cs ≡ true → checked refuse (refuse 0 0) cs .number ≡ 0 → AllHold cs
@@ -73,6 +75,10 @@ write-answers h ts cs lent = rw (checked-map sizeValues size.Refused (size.Size 
 pub verdict-answers : (t : Table) → Answers (λ (v : VerdictValues). v .refusal) (λ n p. verdictValues (Refused n p)) (verdictValues (given (verdictOf t))) (tableChecks t) (verdictValues (verdictAnswer t))
 unfolding verdictAnswer numbered
 verdict-answers t = rw (checked-map verdictValues Refused (given (verdictOf t)) (tableChecks t)) (answers _ _ _ (λ n p. refl) (given-unrefused (verdictOf t) .0) (tableChecks t) refl)
+
+pub standing-answers : (t : Table) (s : State) (lent : ℕ) → Answers (λ (v : StandingValues). v .refusal) (λ n p. standingValues (standing.Refused n p)) (standingValues (standingOf t s)) (standingChecks t s lent) (standingValues (standingAnswer t s lent))
+unfolding standingAnswer numbered
+standing-answers t s lent = rw (checked-map standingValues standing.Refused (standingOf t s) (standingChecks t s lent)) (answers _ _ _ (λ n p. refl) (stands-rows t s .0) (standingChecks t s lent) refl)
 
 pub list-answers : (t : Table) (s : State) (lent : ℕ) → Answers (λ (v : SizeValues). v .refusal) (λ n p. sizeValues (size.Refused n p)) (sizeValues (size.Size (length (listedOf t s)))) (listChecks t s lent) (sizeValues (listAnswer t s lent))
 unfolding listAnswer numbered

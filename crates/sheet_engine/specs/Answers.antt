@@ -15,6 +15,7 @@ use Rattle.codec.specs.declared.SizeAnswer.the-variants as size
 use Rattle.state.specs.declared.StepKind.{StepKind}
 use Rattle.state.specs.declared.StepKind.the-variants as kind
 use Rattle.moves.specs.Steps.{listedOf, kindAt}
+use Rattle.moves.specs.Standing.{joinsOf, waitingOf}
 use Rattle.moves.specs.Fits.{modeCheck, fitChecks}
 use Rattle.engine.specs.declared.Stepped.{Stepped}
 use Rattle.engine.specs.ByValue.{takenAnswer}
@@ -23,6 +24,8 @@ use Rattle.verdict.specs.declared.Verdict.the-variants as verdict
 use Rattle.verdict.specs.Verdict.{verdictOf}
 use Rattle.sheet_engine.specs.declared.VerdictAnswer.{VerdictAnswer}
 use Rattle.sheet_engine.specs.declared.VerdictAnswer.the-variants.{Pass, Fail, Refused}
+use Rattle.sheet_engine.specs.declared.StandingAnswer.{StandingAnswer}
+use Rattle.sheet_engine.specs.declared.StandingAnswer.the-variants as standing
 use Rattle.sheet_engine.specs.declared.Started.{Started}
 
 -- the verdict: the table's checks, then pass or fail
@@ -61,6 +64,25 @@ listAnswer t s lent = checked size.Refused (size.Size (length (listedOf t s))) (
 -- "listing leave[s] bytes past [its] output unchanged"; a refusal changes nothing
 unfoldable pub listBuffer : Table → State → List ℕ → List ℕ
 listBuffer t s lent = checked (λ number place. lent) (written (listedOf t s) lent) (listChecks t s (length lent))
+
+-- Document 02, request 1: "With no step listed, a state is finished if no JOIN row is in front, and otherwise waiting." By the steps that are listed and the JOIN rows in front.
+unfoldable pub standingBy : List ℕ → List ℕ → StandingAnswer
+standingBy (r ∷ steps) joins = standing.Enabled
+standingBy [] [] = standing.Finished
+standingBy [] (j ∷ joins) = standing.Waiting (length (j ∷ joins))
+
+unfoldable pub standingOf : Table → State → StandingAnswer
+standingOf t s = standingBy (listedOf t s) (joinsOf t s)
+
+-- the rows that it waits for, to a lent buffer: 12 as in listing
+abbrev pub standingChecks : Table → State → ℕ → List Check
+standingChecks t s lent = callChecks t s ++ (room (length (waitingOf t s)) lent ∷ [])
+
+unfoldable pub standingAnswer : Table → State → ℕ → StandingAnswer
+standingAnswer t s lent = checked standing.Refused (standingOf t s) (standingChecks t s lent)
+
+unfoldable pub standingBuffer : Table → State → List ℕ → List ℕ
+standingBuffer t s lent = checked (λ number place. lent) (written (waitingOf t s) lent) (standingChecks t s (length lent))
 
 -- the step of a row: 11 is its kind where it has none
 unfoldable pub kindAnswer : Table → State → ℕ → StepKind

@@ -24,6 +24,8 @@ use Rattle.state.specs.declared.StepKind.the-variants as kind
 use Rattle.moves.specs.Steps.{linksOf, kindAt, hasStep, steppedOf}
 use Rattle.engine.specs.declared.Stepped.{Stepped}
 use Rattle.sheet_engine.specs.Answers.{callChecks}
+use Rattle.sheet_engine.specs.declared.StandingAnswer.{StandingAnswer}
+use Rattle.sheet_engine.specs.declared.StandingAnswer.the-variants as standing
 use Rattle.sheet_engine.specs.declared.VerdictAnswer.{VerdictAnswer}
 use Rattle.sheet_engine.specs.declared.VerdictAnswer.the-variants.{Pass, Fail, Refused}
 
@@ -75,6 +77,19 @@ pub record SizeValues : Type 0 where
 abbrev pub sizeValues : SizeAnswer → SizeValues
 sizeValues (size.Size needed) = record { refusal = 0; place = 0; size = needed }
 sizeValues (size.Refused number place) = record { refusal = number; place = place; size = 0 }
+
+-- number and place of the refusal; 1 where steps are listed, 2 for "finished", 3 for "waiting" with the number of its rows
+pub record StandingValues : Type 0 where
+  pub refusal : ℕ
+  pub place : ℕ
+  pub word : ℕ
+  pub rows : ℕ
+
+abbrev pub standingValues : StandingAnswer → StandingValues
+standingValues standing.Enabled = record { refusal = 0; place = 0; word = 1; rows = 0 }
+standingValues standing.Finished = record { refusal = 0; place = 0; word = 2; rows = 0 }
+standingValues (standing.Waiting rows) = record { refusal = 0; place = 0; word = 3; rows = rows }
+standingValues (standing.Refused number place) = record { refusal = number; place = place; word = 0; rows = 0 }
 
 -- number and place of the refusal; 1 for "act" with the activity, 2 for "set" with link and 0 or 1, 3 for "open", 4 for "clean"
 pub record StepValues : Type 0 where

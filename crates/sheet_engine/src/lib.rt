@@ -7,7 +7,7 @@ ghost use Rattle.sheet.specs.Rules.{refuse, refusalOf};
 ghost use Rattle.sheet.specs.Sheet.{settingsOf, termsOf, conditionsOf};
 ghost use Rattle.moves.specs.Steps.{Sized};
 ghost use Rattle.codec.specs.Answers.{Bytes, readOf, partOf, writeOf, writtenOf};
-ghost use Rattle.sheet_engine.specs.Answers.{verdictAnswer, startAnswer, callChecks, listAnswer, listBuffer, kindAnswer, stepAnswer};
+ghost use Rattle.sheet_engine.specs.Answers.{verdictAnswer, startAnswer, callChecks, listAnswer, listBuffer, standingAnswer, standingBuffer, kindAnswer, stepAnswer};
 use codec::SheetAnswer;
 use codec::SizeAnswer;
 use engine::Stepped;
@@ -25,6 +25,14 @@ pub enum VerdictAnswer {
         number: usize,
         link: usize,
     },
+    Refused(u8, usize),
+}
+
+// How a state stands: steps are listed; nothing is left; it waits for so many JOIN rows; or number and place of the refusal.
+pub enum StandingAnswer {
+    Enabled,
+    Finished,
+    Waiting(usize),
     Refused(u8, usize),
 }
 
@@ -150,6 +158,32 @@ pub fn list_steps(s: State, h: Head, ts: &[u8], cs: &[u8], out: &mut [u8]) -> Si
         return SizeAnswer::Refused(12, size);
     }
     SizeAnswer::Size(size)
+}
+
+// How a state stands, and the JOIN rows that it waits for, rising, to a lent buffer; 12 with the size that is needed.
+pub fn standing(s: State, h: Head, ts: &[u8], cs: &[u8], out: &mut [u8]) -> StandingAnswer
+    ensures { λ r. ⌜ (r ≡ standingAnswer (tableOf h (now (ts .entry)) (now (cs .entry))) s (length (now (out .entry)))) × (now (out .exit) ≡ standingBuffer (tableOf h (now (ts .entry)) (now (cs .entry))) s (now (out .entry))) ⌝ }
+    ensures sized { λ r. ⌜ Sized s ⌝ }
+{
+    let refusal = judge_state(s, h, ts, cs);
+    let number = refusal.number;
+    let place = refusal.place;
+    if number != 0 {
+        return StandingAnswer::Refused(number, place);
+    }
+    let room = out.len();
+    let found = engine::stand(h, ts, cs, s, out);
+    let waiting = found.waiting;
+    if room < waiting {
+        return StandingAnswer::Refused(12, waiting);
+    }
+    if found.steps != 0 {
+        return StandingAnswer::Enabled;
+    }
+    if waiting == 0 {
+        return StandingAnswer::Finished;
+    }
+    StandingAnswer::Waiting(waiting)
 }
 
 // The step of a row; 11 and the row where it has none.
