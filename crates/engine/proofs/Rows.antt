@@ -1,7 +1,7 @@
 -- The rows that have a step and the JOINs in front, from the tables, and the rows that a state waits for. Assumes nothing.
 use Prim.Native.Nat.{ℕ, _*_}
 use mathlib.Core.Path.{_≡_, refl, sym, ap, _∙_}
-use mathlib.Core.Bool.{Bool, true, false, _&&_}
+use mathlib.Core.Bool.{Bool, true, false, _&&_, and-true}
 use mathlib.Core.List.{List, [], _∷_}
 use native.Mathlib.Omega.{arith}
 use lib.Dec.{eqb}
@@ -19,7 +19,8 @@ use Rattle.sheet.specs.Accepted.{WellFormed}
 use Rattle.sheet.proofs.Rows.{row-join}
 use Rattle.state.specs.declared.State.{State}
 use Rattle.moves.specs.Steps.{marksOf, nodes, hasStep, listedOf}
-use Rattle.moves.specs.Standing.{joinInFront, joinsOf, waitingBy, waitingOf}
+use Rattle.moves.specs.Standing.{joinInFront, joinsOf, waitingOf}
+use Rattle.moves.proofs.Standing.{waiting-cases}
 use Rattle.flags.specs.Flags.{flagged, Shows}
 use Rattle.flags.proofs.Shown.{shown, shown-listed}
 use Rattle.engine.specs.ByValue.{isStep, stepFrom, joinFrom}
@@ -41,11 +42,7 @@ front-join N m false = refl
 front-join NIL m true = refl
 front-join (PREFIX (act a) c) m true = sym (and-false (waitsBy (stand m)))
 front-join (PREFIX (out l v) c) m true = sym (and-false (waitsBy (stand m)))
-front-join (PREFIX (join q) c) m true = at (waitsBy (stand m))
-  where
-    at : (b : Bool) → b ≡ (b && true)
-    at true = refl
-    at false = refl
+front-join (PREFIX (join q) c) m true = sym (and-true (waitsBy (stand m)))
 front-join (BRANCH κ p q) m true = sym (and-false (waiting (BRANCH κ p q) m))
 
 -- the flagged rows are document 01's
@@ -62,23 +59,17 @@ module _ (t : Table) (s : State) (seen vals : List ℕ) (k : Knows t s seen vals
       ap (λ (b : Bool). b && (isJoin (nodes t r) && waitsBy (stand (marksOf s r)))) (shown _ (t .n) seen (k .seen-shows) r (omega arith) ∙ asked-reached (nodes t) (marksOf s) r)
       ∙ (front-join (nodes t r) (marksOf s r) (reached (nodes t) (marksOf s) r) ∙ rw (lt-ltb r (t .n) (omega arith)) refl))
 
--- where a step is listed a state waits for nothing, and nothing is written; where none is, for the JOINs in front
+empty : (xs : List ℕ) → length xs ≡ 0 → xs ≡ []
+empty [] e = refl
+empty (x ∷ xs) e = absurd (omega arith)
+
+-- how many rows have a step tells what the state waits for; where it is nothing, nothing is written
 module _ (t : Table) (s : State) (steps : ℕ) (e : steps ≡ length (listedOf t s)) where
-  waits-none : (steps ≡ 0 → ⊥) → waitingOf t s ≡ []
-  unfolding waitingOf waitingBy
-  waits-none h = at (listedOf t s) e
-    where
-      at : (xs : List ℕ) → steps ≡ length xs → waitingBy xs (joinsOf t s) ≡ []
-      at [] z = absurd (h z)
-      at (x ∷ xs) z = refl
+  pub nothing-waits : (steps ≡ 0 → ⊥) → (lent : List ℕ) → (0 ≡ length (waitingOf t s)) × (lent ≡ written (waitingOf t s) lent)
+  nothing-waits h lent =
+      waiting-cases t s (λ xs. (0 ≡ length xs) × (lent ≡ written xs lent))
+      (λ some. (refl, written-fits [] lent lent (omega arith) refl))
+      (λ none. absurd (h (e ∙ ap length none)))
 
   pub waits-joins : steps ≡ 0 → waitingOf t s ≡ joinsOf t s
-  unfolding waitingOf waitingBy
-  waits-joins h = at (listedOf t s) e
-    where
-      at : (xs : List ℕ) → steps ≡ length xs → waitingBy xs (joinsOf t s) ≡ joinsOf t s
-      at [] z = refl
-      at (x ∷ xs) z = absurd (omega arith)
-
-  pub nothing-waits : (steps ≡ 0 → ⊥) → (lent : List ℕ) → (0 ≡ length (waitingOf t s)) × (lent ≡ written (waitingOf t s) lent)
-  nothing-waits h lent = rw (waits-none h) (refl, written-fits [] lent lent (omega arith) refl)
+  waits-joins h = waiting-cases t s (λ xs. xs ≡ joinsOf t s) (λ some. absurd (some (empty (listedOf t s) (sym e ∙ h)))) (λ none. refl)

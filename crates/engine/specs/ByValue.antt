@@ -1,4 +1,4 @@
--- The step of a row from tables of what is reached and of the conditions' values, and what taking it answers.
+-- The step of a row, and whether it is a JOIN in front, from tables of what is reached and of the conditions' values; and what taking a step answers.
 use Prim.Native.Nat.{ℕ}
 use mathlib.Core.Bool.{Bool, true, false, cond, _&&_}
 use mathlib.Core.List.{List}

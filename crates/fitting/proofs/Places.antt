@@ -19,7 +19,7 @@ use Rattle.steps.specs.Marks.{Marks}
 use Rattle.steps.specs.InFront.{waiting}
 use Rattle.sheet.specs.Table.{rowAt}
 use Rattle.moves.specs.Fits.{suits, marksFit, markOk, linkOk, held, waitOk, live, clearRow, clearOk}
-use Rattle.flags.specs.Flags.{Shows}
+use Rattle.flags.specs.Flags.{flagged, Shows}
 use Rattle.flags.proofs.Shown.{shown}
 use Rattle.front.specs.Asked.{nextBy, nextOf, topOf, askedAt}
 use Rattle.fitting.specs.Checks.{restFit}
@@ -63,7 +63,6 @@ pub link-read : (m : ℕ) (links : List ℕ) (l : ℕ) (r : Bool) → r ≡ cond
 unfolding linkOk
 link-read m links l r e = sym e
 
--- what the table of an asked test shows at a row
 asked-held : (ts : List ℕ) (μ : Marks) (i : ℕ) → askedAt 1 (rowAt ts) μ i ≡ held ts μ i
 unfolding askedAt nextOf nextBy topOf held
 asked-held ts μ i = refl
@@ -73,10 +72,10 @@ unfolding askedAt nextOf nextBy topOf live
 asked-live ts μ i = refl
 
 module _ (ts : List ℕ) (μ : Marks) (n : ℕ) (t : List ℕ) (i : ℕ) (h : i < n) (r : Bool) where
-  pub wait-read : Shows (askedAt 1 (rowAt ts) μ) n t → r ≡ or (not (eqb (getD t i 0) 1)) (waiting (rowAt ts i) (μ i)) → waitOk ts μ i ≡ r
+  pub wait-read : Shows (askedAt 1 (rowAt ts) μ) n t → r ≡ or (not (flagged t i)) (waiting (rowAt ts i) (μ i)) → waitOk ts μ i ≡ r
   unfolding waitOk
   wait-read s e = sym (e ∙ ap (λ (b : Bool). or (not b) (waiting (rowAt ts i) (μ i))) (shown _ n t s i h ∙ asked-held ts μ i))
 
-  pub clear-read : (links : List ℕ) → Shows (askedAt 2 (rowAt ts) μ) n t → r ≡ or (not (eqb (getD t i 0) 1)) (clearRow (rowAt ts i) (μ i) links) → clearOk ts μ links i ≡ r
+  pub clear-read : (links : List ℕ) → Shows (askedAt 2 (rowAt ts) μ) n t → r ≡ or (not (flagged t i)) (clearRow (rowAt ts i) (μ i) links) → clearOk ts μ links i ≡ r
   unfolding clearOk
   clear-read links s e = sym (e ∙ ap (λ (b : Bool). or (not b) (clearRow (rowAt ts i) (μ i) links)) (shown _ n t s i h ∙ asked-live ts μ i))

@@ -4,14 +4,14 @@ use mathlib.Core.Path.{_≡_, refl, _∙_, ap}
 use mathlib.Core.Bool.{Bool, true, false}
 use mathlib.Core.List.{List}
 use lib.Dec.{eqb}
-use lib.ListN.{getD, set, replicate}
+use lib.ListN.{set, replicate}
 use Rattle.laws.specs.Tests.{bit}
 use Rattle.laws.proofs.Tests.{bit-one}
 use Rattle.steps.specs.Rows.{Row, Tree}
 use Rattle.steps.specs.Marks.{Marks}
 use Rattle.steps.specs.Push.{setIf, handed, Pushed}
 use Rattle.steps.proofs.Push.{pushed-none, pushed-own, pushed-all, pushed-more}
-use Rattle.flags.specs.Flags.{Shows}
+use Rattle.flags.specs.Flags.{flagged, Shows}
 use Rattle.front.specs.Asked.{nextOf, topOf, askedAt}
 
 start : (b : Bool) → set (replicate 256 0) 0 (bit b) ≡ setIf b 0 (replicate 256 0)
@@ -24,12 +24,12 @@ module _ (q : ℕ) (node : ℕ → Row) (μ : Marks) (n : ℕ) (tree : Tree node
   unfolding askedAt
   asked-none x e = rw (e, start (topOf q)) (pushed-none node n tree few (topOf q) (λ p s b. nextOf q (node p) (μ p) s b))
 
-  pub asked-own : (i : ℕ) (t : List ℕ) → i < n → Pushed node (askedAt q node μ) n i t → eqb (getD t i 0) 1 ≡ askedAt q node μ i
+  pub asked-own : (i : ℕ) (t : List ℕ) → i < n → Pushed node (askedAt q node μ) n i t → flagged t i ≡ askedAt q node μ i
   unfolding askedAt
   asked-own i t h p = ap (λ (x : ℕ). eqb x 1) (pushed-own node n tree few (topOf q) (λ p s b. nextOf q (node p) (μ p) s b) i t h p) ∙ bit-one _
 
   pub asked-more : (i : ℕ) (t t′ : List ℕ) → i < n → Pushed node (askedAt q node μ) n i t →
-      t′ ≡ handed t (node i) (nextOf q (node i) (μ i) false (eqb (getD t i 0) 1)) (nextOf q (node i) (μ i) true (eqb (getD t i 0) 1)) → Pushed node (askedAt q node μ) n (i + 1) t′
+      t′ ≡ handed t (node i) (nextOf q (node i) (μ i) false (flagged t i)) (nextOf q (node i) (μ i) true (flagged t i)) → Pushed node (askedAt q node μ) n (i + 1) t′
   unfolding askedAt
   asked-more i t t′ h p e = pushed-more node n tree few (topOf q) (λ p s b. nextOf q (node p) (μ p) s b) i h t t′ p (rw (asked-own i t h p) at e)
 

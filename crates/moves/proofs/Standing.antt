@@ -1,44 +1,28 @@
 -- HOW A STATE STANDS: the rows that it waits for, and that nothing is left to do where no step is listed and no JOIN is in front. Assumes nothing.
-use Prim.Native.Nat.{ℕ, _<_}
-use mathlib.Core.Path.{_≡_, refl, sym, ap}
-use mathlib.Core.Bool.{Bool, true, false, true≢false}
-use mathlib.Core.List.{List, [], _∷_, List·Memᴰ, List·Memᴰ·head, List·Memᴰ·not-nil}
+use Prim.Native.Nat.{ℕ, _<_, _≤_}
+use mathlib.Core.Path.{_≡_, refl, sym}
+use mathlib.Core.Bool.{true, false, true≢false}
+use mathlib.Core.List.{List, [], _∷_, cons≢nil, List·Memᴰ, List·Memᴰ·not-nil}
 use mathlib.Core.Logic.{inl, inr, ⊎-elim, _↔_}
 use native.Mathlib.Omega.{arith}
 use lib.ListN.{length}
 use borrow.Author.Tests.{ltb-true}
 use Rattle.laws.specs.Listed.{Rising}
 use Rattle.laws.proofs.Tests.{and-l, and-r, refuted, not-both}
-use Rattle.laws.proofs.Listed.{listed-has, listed-holds, listed-rising}
+use Rattle.laws.proofs.Listed.{listed-has, listed-holds, listed-length, listed-rising, none-listed, some-listed}
 use Rattle.calculus.specs.Process.{Process, nil, prefix, branch, Prefix, act, out, join}
 use Rattle.calculus.specs.Places.{Place, row, here}
 use Rattle.calculus.specs.Steps.{turnOf}
 use Rattle.steps.specs.Rows.{PREFIX, isJoinPrefix, isJoin, conditionOf}
 use Rattle.steps.specs.InFront.{waiting, reached, inFront}
+use Rattle.steps.proofs.Rows.{join-of}
 use Rattle.steps.proofs.InFront.{front-place, place-front}
 use Rattle.sheet.specs.Table.{Table}
 use Rattle.sheet.specs.Accepted.{WellFormed}
-use Rattle.sheet.proofs.Rows.{join-of}
 use Rattle.state.specs.declared.State.{State}
 use Rattle.moves.specs.Steps.{marksOf, nodes, leftIn, turnBy, turnAt, hasStep, listedOf}
 use Rattle.moves.specs.Standing.{joinInFront, joinsOf, waitingBy, waitingOf, bare}
 use Rattle.moves.proofs.Allowed.{listed-rows}
-
-pub cons-not : {x : ℕ} {xs : List ℕ} → x ∷ xs ≡ [] → ⊥
-cons-not {x} {xs} e = let z : length (x ∷ xs) ≡ 0 = ap length e in omega arith
-
--- a list that holds exactly the numbers at which a test holds is empty where it holds nowhere
-module _ (p : ℕ → Bool) where
-  abbrev Holding : List ℕ → Type 0
-  Holding xs = (r : ℕ) → List·Memᴰ r xs ↔ (p r ≡ true)
-
-  none-of : (xs : List ℕ) → Holding xs → (xs ≡ []) ↔ ((r : ℕ) → p r ≡ false)
-  none-of [] h = ((λ e r. refuted (p r) (λ q. List·Memᴰ·not-nil (h r .1 q))), λ f. refl)
-  none-of (x ∷ xs) h = ((λ e. absurd (cons-not e)), λ f. absurd (not-both (h x .0 (List·Memᴰ·head refl)) (f x)))
-
-  some-of : (xs : List ℕ) → Holding xs → (xs ≡ [] → ⊥) ↔ ((r : ℕ) × (p r ≡ true))
-  some-of [] h = ((λ e. absurd (e refl)), λ (r, q) e. List·Memᴰ·not-nil (h r .1 q))
-  some-of (x ∷ xs) h = ((λ e. (x, h x .0 (List·Memᴰ·head refl))), λ some. cons-not)
 
 module _ (t : Table) (s : State) where
   join-below : (r : ℕ) → joinInFront t s r ≡ true → r < t .n
@@ -51,33 +35,40 @@ module _ (t : Table) (s : State) where
   joins-rows r = (listed-holds (joinInFront t s) 0 (t .n) r, λ e. listed-has (joinInFront t s) 0 (t .n) r (omega arith) (omega (arith, join-below r e)) e)
 
   pub no-step : (listedOf t s ≡ []) ↔ ((r : ℕ) → hasStep t s r ≡ false)
-  no-step = none-of (hasStep t s) (listedOf t s) (listed-rows t s)
+  no-step = none-listed (hasStep t s) (listedOf t s) (listed-rows t s)
 
   pub no-join : (joinsOf t s ≡ []) ↔ ((r : ℕ) → joinInFront t s r ≡ false)
-  no-join = none-of (joinInFront t s) (joinsOf t s) joins-rows
+  no-join = none-listed (joinInFront t s) (joinsOf t s) joins-rows
 
   pub some-join : (joinsOf t s ≡ [] → ⊥) ↔ ((r : ℕ) × (joinInFront t s r ≡ true))
-  some-join = some-of (joinInFront t s) (joinsOf t s) joins-rows
+  some-join = some-listed (joinInFront t s) (joinsOf t s) joins-rows
+
+  -- a state waits for nothing where a step is listed, and for the JOIN rows in front where none is
+  pub waiting-cases : (C : List ℕ → Type 0) → ((listedOf t s ≡ [] → ⊥) → C []) → (listedOf t s ≡ [] → C (joinsOf t s)) → C (waitingOf t s)
+  unfolding waitingOf waitingBy
+  waiting-cases C some none = at (listedOf t s) some none
+    where
+      at : (steps : List ℕ) → ((steps ≡ [] → ⊥) → C []) → (steps ≡ [] → C (joinsOf t s)) → C (waitingBy steps (joinsOf t s))
+      at [] some none = none refl
+      at (x ∷ steps) some none = some cons≢nil
 
   -- THE ROWS WAITED FOR: where no step is listed, exactly the JOIN rows in front, "in rising order"
   pub waiting-rows : (r : ℕ) → List·Memᴰ r (waitingOf t s) ↔ ((listedOf t s ≡ []) × (joinInFront t s r ≡ true))
-  unfolding waitingOf waitingBy
-  waiting-rows r = at (listedOf t s)
-    where
-      at : (steps : List ℕ) → List·Memᴰ r (waitingBy steps (joinsOf t s)) ↔ ((steps ≡ []) × (joinInFront t s r ≡ true))
-      at [] = ((λ m. (refl, joins-rows r .0 m)), λ (e, j). joins-rows r .1 j)
-      at (x ∷ steps) = ((λ m. absurd (List·Memᴰ·not-nil m)), λ (e, j). absurd (cons-not e))
+  waiting-rows r =
+      waiting-cases (λ xs. List·Memᴰ r xs ↔ ((listedOf t s ≡ []) × (joinInFront t s r ≡ true)))
+      (λ some. ((λ m. absurd (List·Memᴰ·not-nil m)), λ (e, j). absurd (some e)))
+      (λ none. ((λ m. (none, joins-rows r .0 m)), λ (e, j). joins-rows r .1 j))
 
   pub waiting-below : (r : ℕ) → List·Memᴰ r (waitingOf t s) → r < t .n
   waiting-below r m = join-below r (waiting-rows r .0 m .1)
 
+  pub waiting-few : length (waitingOf t s) ≤ t .n
+  unfolding joinsOf
+  waiting-few = waiting-cases (λ xs. length xs ≤ t .n) (λ some. omega arith) (λ none. listed-length (joinInFront t s) 0 (t .n))
+
   pub waiting-rising : Rising (waitingOf t s)
-  unfolding waitingOf waitingBy joinsOf
-  waiting-rising = at (listedOf t s)
-    where
-      at : (steps : List ℕ) → Rising (waitingBy steps (joinsOf t s))
-      at [] = listed-rising (joinInFront t s) 0 (t .n)
-      at (x ∷ steps) = λ i j h g. absurd (omega arith)
+  unfolding joinsOf
+  waiting-rising = waiting-cases Rising (λ some i j h g. absurd (omega arith)) (λ none. listed-rising (joinInFront t s) 0 (t .n))
 
 -- a process holds no ACT, OUT or JOIN exactly if it has none in front
 bare-place : (P : Process) → (bare P ≡ true) ↔ (Place P → ⊥)

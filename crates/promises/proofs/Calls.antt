@@ -24,12 +24,13 @@ use Rattle.state.specs.declared.State.{State}
 use Rattle.state.specs.declared.StepKind.{StepKind}
 use Rattle.state.specs.declared.StepKind.the-variants.{Clean}
 use Rattle.moves.specs.Steps.{marksOf, Sized, nodes, turnAt, kindTurned, kindAt, hasStep, listedOf, steppedOf}
-use Rattle.moves.specs.Standing.{joinInFront, joinsOf, waitingBy, waitingOf}
+use Rattle.moves.specs.Standing.{waitingOf}
 use Rattle.moves.specs.Runs.{Taken}
 use Rattle.moves.specs.Runs.{Run as Steps, done as ended, take as stepping, taken as stepsTaken, last as lastState}
 use Rattle.moves.proofs.Allowed.{listed-rows}
 use Rattle.moves.proofs.Moves.{has-turn, takes-kind, step-kept}
 use Rattle.moves.proofs.Fits.{fits-step}
+use Rattle.moves.proofs.Standing.{waiting-few}
 use Rattle.moves.proofs.Kept.{run-length}
 use Rattle.fitting.specs.Checks.{stateChecks}
 use Rattle.fitting.proofs.Fitted.{fits-accepted, accepts-fitting}
@@ -99,7 +100,7 @@ module _ (t : Table) (s : State) where
     few-listed = omega (arith, listed-length (hasStep t s) 0 (t .n), well-formed t (meets t table-accepted) .few-terms)
 
     pub rows-are : listedRows t s ≡ listedOf t s
-    rows-are = listed-is (replicate 256 0) (omega (arith, few-listed, length-replicate {A = ℕ} 256 0))
+    rows-are = listed-is (replicate 256 0) few-listed
 
     -- how the state stands, and the rows that it waits for, one byte each and no more
     pub standing-is : (lent : List ℕ) → length (waitingOf t s) ≤ length lent → (standingAnswer t s (length lent) ≡ standingOf t s) × (standingBuffer t s lent ≡ waitingOf t s ++ drop (length (waitingOf t s)) lent)
@@ -112,15 +113,10 @@ module _ (t : Table) (s : State) where
     waiting-is lent h = let (c, b) = standing-is lent h in ap₂ (λ (a : StandingAnswer) (out : List ℕ). take (standingValues a .rows) out) c b ∙ take-at (waitingOf t s) _ _ (sym (stands-rows t s .1))
 
     pub few-waiting : length (waitingOf t s) ≤ 256
-    unfolding waitingOf joinsOf waitingBy
-    few-waiting = at (listedOf t s)
-      where
-        at : (steps : List ℕ) → length (waitingBy steps (joinsOf t s)) ≤ 256
-        at [] = omega (arith, listed-length (joinInFront t s) 0 (t .n), well-formed t (meets t table-accepted) .few-terms)
-        at (x ∷ steps) = omega arith
+    few-waiting = omega (arith, waiting-few t s, well-formed t (meets t table-accepted) .few-terms)
 
-    pub standing-as : standingAnswer t s 256 ≡ standingOf t s
-    standing-as = standing-is (replicate 256 0) few-waiting .0
+    pub standing-any : (lent : ℕ) → length (waitingOf t s) ≤ lent → standingAnswer t s lent ≡ standingOf t s
+    standing-any lent h = let l = length-replicate {A = ℕ} lent 0 in ap (standingAnswer t s) (sym l) ∙ standing-is (replicate lent 0) (omega (arith, h, l)) .0
 
     pub waiting-are : waitingRows t s ≡ waitingOf t s
     waiting-are = waiting-is (replicate 256 0) few-waiting
@@ -161,30 +157,34 @@ module _ (t : Table) (s : State) where
     none-taken : (r : ℕ) → stepAnswer t s r .ok ≡ false
     none-taken r = ap (λ (k : Stepped). k .ok) (sym (step-refused t s refusal refl r h))
 
-  -- so what is told of a list or a step is told of both
+  -- so what is told of the rows that a caller reads, or of a step, is told of both
+  module _ (read : List ℕ → List ℕ) (whole : List ℕ) (is : refusal .number ≡ 0 → (lent : List ℕ) → length whole ≤ length lent → read lent ≡ whole) (few : refusal .number ≡ 0 → length whole ≤ 256) (none : (refusal .number ≡ 0 → ⊥) → (lent : List ℕ) → read lent ≡ []) where
+    read-in : (C : List ℕ → Type 0) (lent : List ℕ) → C [] → (refusal .number ≡ 0 → C (read lent)) → C (read lent)
+    read-in C lent nothing answered = by-cases (ℕ-discrete (refusal .number) 0) answered (λ h. subst C (sym (none h lent)) nothing)
+
+    read-any : (lent : List ℕ) → length (read (replicate 256 0)) ≤ length lent → read lent ≡ read (replicate 256 0)
+    read-any lent room =
+        by-cases (ℕ-discrete (refusal .number) 0)
+        (λ e. let all = is e (replicate 256 0) (few e) in rw all (is e lent (rw all at room)))
+        (λ h. none h lent ∙ sym (none h (replicate 256 0)))
+
   pub listed-in : (C : List ℕ → Type 0) (lent : List ℕ) → C [] → (refusal .number ≡ 0 → C (listedIn t s lent)) → C (listedIn t s lent)
-  listed-in C lent nothing answered = by-cases (ℕ-discrete (refusal .number) 0) answered (λ h. subst C (sym (none-listed h lent)) nothing)
+  listed-in = read-in (listedIn t s) (listedOf t s) listed-is few-listed none-listed
+
+  pub listed-any : (lent : List ℕ) → length (listedRows t s) ≤ length lent → listedIn t s lent ≡ listedRows t s
+  listed-any = read-any (listedIn t s) (listedOf t s) listed-is few-listed none-listed
+
+  pub waiting-in : (C : List ℕ → Type 0) (lent : List ℕ) → C [] → (refusal .number ≡ 0 → C (waitingIn t s lent)) → C (waitingIn t s lent)
+  waiting-in = read-in (waitingIn t s) (waitingOf t s) waiting-is few-waiting none-waiting
+
+  pub waiting-any : (lent : List ℕ) → length (waitingRows t s) ≤ length lent → waitingIn t s lent ≡ waitingRows t s
+  waiting-any = read-any (waitingIn t s) (waitingOf t s) waiting-is few-waiting none-waiting
 
   pub ok-listed : (r : ℕ) → (stepAnswer t s r .ok ≡ true) ↔ List·Memᴰ r (listedRows t s)
   ok-listed r =
       by-cases (ℕ-discrete (refusal .number) 0)
       (λ e. ((λ ok. row-listed e r .1 (sym (ok-is e r) ∙ ok)), (λ m. ok-is e r ∙ row-listed e r .0 m)))
       (λ h. ((λ ok. absurd (true≢false (sym ok ∙ none-taken h r))), (λ m. absurd (List·Memᴰ·not-nil (subst (List·Memᴰ r) (none-listed h (replicate 256 0)) m)))))
-
-  pub listed-any : (lent : List ℕ) → length (listedRows t s) ≤ length lent → listedIn t s lent ≡ listedRows t s
-  listed-any lent room =
-      by-cases (ℕ-discrete (refusal .number) 0)
-      (λ e. rw (rows-are e) (listed-is e lent (rw (rows-are e) at room)))
-      (λ h. none-listed h lent ∙ sym (none-listed h (replicate 256 0)))
-
-  pub waiting-in : (C : List ℕ → Type 0) (lent : List ℕ) → C [] → (refusal .number ≡ 0 → C (waitingIn t s lent)) → C (waitingIn t s lent)
-  waiting-in C lent nothing answered = by-cases (ℕ-discrete (refusal .number) 0) answered (λ h. subst C (sym (none-waiting h lent)) nothing)
-
-  pub waiting-any : (lent : List ℕ) → length (waitingRows t s) ≤ length lent → waitingIn t s lent ≡ waitingRows t s
-  waiting-any lent room =
-      by-cases (ℕ-discrete (refusal .number) 0)
-      (λ e. rw (waiting-are e) (waiting-is e lent (rw (waiting-are e) at room)))
-      (λ h. none-waiting h lent ∙ sym (none-waiting h (replicate 256 0)))
 
   -- of a state of the right size, an answer that is no refusal says that it is accepted
   module _ (size : Sized s) where

@@ -1,8 +1,8 @@
 -- DOCUMENT 02, REQUEST 1: finished, or waiting, over what `standing` and `list_steps` answer. Demand 3 does not equate these words, and nothing here does: cleaning may finish where plain waits. Assumes nothing.
 use Prim.Native.Nat.{ℕ, _≤_}
-use mathlib.Core.Path.{_≡_, sym, _∙_, ap, subst}
+use mathlib.Core.Path.{_≡_, refl, sym, _∙_, ap, subst}
 use mathlib.Core.Bool.{true, false}
-use mathlib.Core.List.{List, [], List·Memᴰ}
+use mathlib.Core.List.{List, [], _∷_, cons≢nil, List·Memᴰ}
 use mathlib.Core.Logic.{inl, inr, ⊎-elim, _↔_}
 use native.Mathlib.Omega.{arith}
 use lib.ListN.{length, replicate}
@@ -10,14 +10,13 @@ use Rattle.laws.specs.Listed.{Rising}
 use Rattle.sheet.specs.Table.{Table}
 use Rattle.state.specs.declared.State.{State}
 use Rattle.moves.specs.Steps.{leftIn, listedOf}
-use Rattle.moves.specs.Standing.{joinInFront, bare}
-use Rattle.moves.proofs.Standing.{no-step, no-join, some-join, waiting-rows as rows-waiting, waiting-rising, finished-bare}
-use Rattle.sheet_engine.specs.declared.StandingAnswer.{StandingAnswer}
-use Rattle.sheet_engine.specs.Answers.{standingOf}
-use Rattle.sheet_engine.specs.Values.{standingValues}
+use Rattle.moves.specs.Standing.{joinInFront, joinsOf, bare}
+use Rattle.moves.proofs.Standing.{no-step, no-join, some-join, waiting-cases, waiting-rows as rows-waiting, waiting-rising, finished-bare}
+use Rattle.sheet_engine.specs.Answers.{standingOf, standingAnswer}
+use Rattle.sheet_engine.specs.Values.{StandingValues, standingValues}
 use Rattle.sheet_engine.proofs.Stands.{stands-rows, one-word, enabled-word, finished-word, waiting-word}
 use Rattle.promises.specs.Calls.{Accepted, listedRows, standingIn, Enabled, Finished, Waiting, waitingIn, waitingRows, OneOf}
-use Rattle.promises.proofs.Calls.{formed, refusal, unrefused, rows-are, standing-as, waiting-are, waiting-in, waiting-any}
+use Rattle.promises.proofs.Calls.{formed, refusal, unrefused, rows-are, few-waiting, standing-any, waiting-are, waiting-in, waiting-any}
 
 -- "in rising order"
 pub waiting-rises : (t : Table) (s : State) → Rising (waitingRows t s)
@@ -31,8 +30,11 @@ module _ (t : Table) (s : State) (accepted : Accepted t s) where
   free : refusal t s .number ≡ 0
   free = unrefused t s accepted
 
+  values-are : standingIn t s ≡ standingValues (standingOf t s)
+  values-are = ap standingValues (standing-any t s free 256 (few-waiting t s free))
+
   word-is : standingIn t s .word ≡ standingValues (standingOf t s) .word
-  word-is = ap (λ (a : StandingAnswer). standingValues a .word) (standing-as t s free)
+  word-is = ap (λ (v : StandingValues). v .word) values-are
 
   -- what is said of the word and the lists that `moves` defines is said of what the calls answer
   told : (word : ℕ) (Said : List ℕ → Type 0) → (standingValues (standingOf t s) .word ≡ word) ↔ Said (listedOf t s) → (standingIn t s .word ≡ word) ↔ Said (listedRows t s)
@@ -55,7 +57,18 @@ module _ (t : Table) (s : State) (accepted : Accepted t s) where
   waiting-rows r = rw (waiting-are t s free, rows-are t s free) (rows-waiting t s r)
 
   pub waiting-count : standingIn t s .rows ≡ length (waitingRows t s)
-  waiting-count = ap (λ (a : StandingAnswer). standingValues a .rows) (standing-as t s free) ∙ stands-rows t s .1 ∙ ap length (sym (waiting-are t s free))
+  waiting-count = ap (λ (v : StandingValues). v .rows) values-are ∙ stands-rows t s .1 ∙ ap length (sym (waiting-are t s free))
+
+  -- every buffer that holds them is answered so, and a state that does not wait asks for no room
+  pub standing-in-any : (lent : ℕ) → length (waitingRows t s) ≤ lent → standingValues (standingAnswer t s lent) ≡ standingIn t s
+  standing-in-any lent room = ap standingValues (standing-any t s free lent (rw (waiting-are t s free) at room)) ∙ sym values-are
+
+  pub no-room-asked : (Waiting t s → ⊥) → waitingRows t s ≡ []
+  no-room-asked h = waiting-are t s free ∙ waiting-cases t s (λ rows. rows ≡ []) (λ some. refl) (λ none. at (joinsOf t s) (λ j. h (word-is ∙ waiting-word t s .1 (none, j))))
+    where
+      at : (rows : List ℕ) → ((rows ≡ [] → ⊥) → ⊥) → rows ≡ []
+      at [] f = refl
+      at (x ∷ rows) f = absurd (f cons≢nil)
 
   -- a state stands in exactly one way
   pub stands-one-way : OneOf (Enabled t s) (Finished t s) (Waiting t s)

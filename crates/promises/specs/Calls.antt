@@ -1,4 +1,4 @@
--- What a caller sees through the calls, by the definitions that their contracts cite: the steps that are listed in a state, and runs of steps that are taken.
+-- What a caller sees through the calls, by the definitions that their contracts cite: the steps that are listed in a state, how it stands, and runs of steps that are taken.
 use Prim.Native.Nat.{ℕ, _≤_}
 use mathlib.Core.Path.{_≡_}
 use mathlib.Core.Bool.{true}
@@ -69,7 +69,7 @@ listedIn t s lent = take (countOf (listAnswer t s (length lent))) (listBuffer t 
 abbrev pub listedRows : Table → State → List ℕ
 listedRows t s = listedIn t s (replicate 256 0)
 
--- How a state stands, by document 02's number and values for it: what `standing` answers with a buffer of 256 bytes, which no list of rows exceeds.
+-- How a state stands, by the number and values that `standingValues` gives for it: what `standing` answers with a buffer of 256 bytes, which no list of rows exceeds.
 abbrev pub standingIn : Table → State → StandingValues
 standingIn t s = standingValues (standingAnswer t s 256)
 

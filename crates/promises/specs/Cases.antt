@@ -1,4 +1,4 @@
--- Document 01, "Examples on each side": the cases marked P, and document 02's sheet X, as one table. A row is a sheet in bytes, what is asked of it, and what the calls answer.
+-- Document 01, "Examples on each side": the cases marked P, and how sheet X stands after document 02, as one table. A row is a sheet in bytes, what is asked of it, and what the calls answer.
 use Prim.Native.Nat.{ℕ, _-_}
 use mathlib.Core.List.{List, [], _∷_, _++_}
 use lib.ListN.{take}
@@ -112,11 +112,13 @@ cases =
     -- "cleaning, X after 4: link 0 true, row 6 listed as clean", "plain, after 4: nothing"
     of X (after 1 (4 ∷ [])) (Seen (Set 0 1 ∷ []) (Size 1) (at 6 Clean ∷ []) (2 ∷ [])) ∷
     of X (after 0 (4 ∷ [])) (Seen (Set 0 1 ∷ []) (Size 0) [] (2 ∷ [])) ∷
-    -- document 02, request 1: plain waits for row 6 after 2 and after 4; where cleaning goes on after 2, it finishes
+    -- document 02, request 1: plain waits for row 6, after 2 and after 4
     of X (standing 0 []) (Stands Enabled []) ∷
     of X (standing 0 (2 ∷ [])) (Stands (Waiting 1) (6 ∷ [])) ∷
     of X (standing 0 (4 ∷ [])) (Stands (Waiting 1) (6 ∷ [])) ∷
     of X (standing 1 (2 ∷ 6 ∷ 7 ∷ [])) (Stands Finished []) ∷
+    -- "cleaning may finish where plain waits": after 4, struck of the cleaning step 6
+    of X (standing 1 (4 ∷ 6 ∷ [])) (Stands Finished []) ∷
     -- "lazy OR of links 0 and 1 passes", "strict, it fails with number 5, link 1"
     of (joinOn 1 3 (LINK 0 ++ LINK 1 ++ OR 0 1)) verdict (Verdict Pass) ∷
     of (joinOn 0 3 (LINK 0 ++ LINK 1 ++ OR 0 1)) verdict (Verdict (Fail 2 5 1)) ∷

@@ -1,7 +1,7 @@
 -- How a state stands, by the steps that are listed and the JOIN rows in front. Assumes nothing.
 use Prim.Native.Nat.{ℕ}
 use mathlib.Core.Path.{_≡_, refl, ap}
-use mathlib.Core.List.{List, [], _∷_}
+use mathlib.Core.List.{List, [], _∷_, cons≢nil}
 use mathlib.Core.Logic.{_⊎_, inl, inr, _↔_}
 use native.Mathlib.Omega.{arith}
 use lib.ListN.{length}
@@ -9,7 +9,6 @@ use Rattle.sheet.specs.Table.{Table}
 use Rattle.state.specs.declared.State.{State}
 use Rattle.moves.specs.Steps.{listedOf}
 use Rattle.moves.specs.Standing.{joinsOf, waitingBy, waitingOf}
-use Rattle.moves.proofs.Standing.{cons-not}
 use Rattle.sheet_engine.specs.declared.StandingAnswer.the-variants.{Enabled, Finished, Waiting}
 use Rattle.sheet_engine.specs.Answers.{standingBy, standingOf}
 use Rattle.sheet_engine.specs.Values.{StandingValues, standingValues}
@@ -51,21 +50,21 @@ valuesBy steps joins = standingValues (standingBy steps joins)
 
 by-enabled : (steps joins : List ℕ) → (valuesBy steps joins .word ≡ 1) ↔ (steps ≡ [] → ⊥)
 unfolding standingBy
-by-enabled (x ∷ steps) joins = ((λ e. cons-not), λ h. refl)
+by-enabled (x ∷ steps) joins = ((λ e. cons≢nil), λ h. refl)
 by-enabled [] [] = ((λ e. absurd (omega (arith, e))), λ h. absurd (h refl))
 by-enabled [] (j ∷ joins) = ((λ e. absurd (omega (arith, e))), λ h. absurd (h refl))
 
 by-finished : (steps joins : List ℕ) → (valuesBy steps joins .word ≡ 2) ↔ ((steps ≡ []) × (joins ≡ []))
 unfolding standingBy
-by-finished (x ∷ steps) joins = ((λ e. absurd (omega (arith, e))), λ (h, g). absurd (cons-not h))
+by-finished (x ∷ steps) joins = ((λ e. absurd (omega (arith, e))), λ (h, g). absurd (cons≢nil h))
 by-finished [] [] = ((λ e. (refl, refl)), λ h. refl)
-by-finished [] (j ∷ joins) = ((λ e. absurd (omega (arith, e))), λ (h, g). absurd (cons-not g))
+by-finished [] (j ∷ joins) = ((λ e. absurd (omega (arith, e))), λ (h, g). absurd (cons≢nil g))
 
 by-waiting : (steps joins : List ℕ) → (valuesBy steps joins .word ≡ 3) ↔ ((steps ≡ []) × (joins ≡ [] → ⊥))
 unfolding standingBy
-by-waiting (x ∷ steps) joins = ((λ e. absurd (omega (arith, e))), λ (h, g). absurd (cons-not h))
+by-waiting (x ∷ steps) joins = ((λ e. absurd (omega (arith, e))), λ (h, g). absurd (cons≢nil h))
 by-waiting [] [] = ((λ e. absurd (omega (arith, e))), λ (h, g). absurd (g refl))
-by-waiting [] (j ∷ joins) = ((λ e. (refl, cons-not)), λ h. refl)
+by-waiting [] (j ∷ joins) = ((λ e. (refl, cons≢nil)), λ h. refl)
 
 by-word : (steps joins : List ℕ) → (valuesBy steps joins .word ≡ 1) ⊎ ((valuesBy steps joins .word ≡ 2) ⊎ (valuesBy steps joins .word ≡ 3))
 unfolding standingBy

@@ -13,9 +13,9 @@ use Rattle.laws.proofs.Tests.{and-l}
 use Rattle.laws.proofs.Lowest.{lowest-at, lowest-same}
 use Rattle.calculus.specs.Process.{act, out, join}
 use Rattle.steps.specs.Rows.{Row, NIL, PREFIX, BRANCH, isJoinPrefix, isJoin, conditionOfPrefix, conditionOf}
+use Rattle.steps.proofs.Rows.{join-of}
 use Rattle.sheet.specs.Table.{Table, cut, rowAt}
 use Rattle.sheet.specs.Accepted.{WellFormed}
-use Rattle.sheet.proofs.Rows.{join-of}
 use Rattle.sheet.proofs.Beyond.{row-same, condition-same}
 use Rattle.failure.specs.Failure.{failsAt, numberAt, linkAt}
 use Rattle.verdict.specs.declared.Verdict.{Verdict}

@@ -16,8 +16,8 @@ use Rattle.conditions.proofs.Failure.{fails-offends, number-smallest, link-lowe
 use Rattle.conditions.proofs.Numbers.{links-inside}
 use Rattle.steps.specs.Rows.{PREFIX, isJoinPrefix, isJoin, conditionOfPrefix, conditionOf}
 use Rattle.steps.specs.Verdict.{SheetPasses}
+use Rattle.steps.proofs.Rows.{join-of}
 use Rattle.sheet.specs.Table.{Table, rowAt, conditionRowAt, evaluationOf, evalIn}
-use Rattle.sheet.proofs.Rows.{join-of}
 use Rattle.failure.specs.Failure.{linksAt, failsAt, numberAt, linkAt}
 use Rattle.verdict.specs.declared.Verdict.the-variants.{Pass, Fail}
 use Rattle.verdict.specs.Verdict.{failsIn, sound, failing, failAt, verdictOf, Judged}
