@@ -9,7 +9,9 @@ use lib.ListN.{length, length-append, length-take, take}
 use Rattle.state.specs.declared.StepKind.{StepKind}
 use Rattle.state.specs.declared.StepKind.the-variants as kind
 use Rattle.sheet_engine.specs.declared.VerdictAnswer.the-variants as verdict
-use Rattle.lines.specs.Lines.{field, fields, feed, refusedWord, refusedLine, passWords, failWords, verdictLine, stepWord, actWord, setWord, openWord, cleanWord, namedLine, stepLine, letters, linksWord, linksLine, overWord, enabledWord, lastLine}
+use Rattle.sheet_engine.specs.declared.StandingAnswer.{StandingAnswer}
+use Rattle.sheet_engine.specs.declared.StandingAnswer.the-variants as standing
+use Rattle.lines.specs.Lines.{field, fields, feed, refusedWord, refusedLine, passWords, failWords, verdictLine, stepWord, actWord, setWord, openWord, cleanWord, namedLine, stepLine, letters, linksWord, linksLine, enabledWord, waitingWord, finishedWord, rowsLine, finishedLine, lastLine}
 use Rattle.lines.proofs.Decimal.{decimal-short, decimal-digits}
 
 -- at most so many bytes
@@ -86,7 +88,18 @@ links-short m xs h = joined 5 66 (said linksWord) (joined 65 1 (at (eqb m 0)) (s
     at true = record { is = omega arith }
     at false = let e = letters-length (take m xs) in let f = length-take m xs in record { is = omega (arith, e, f, h) }
 
-pub last-short : (xs : List ℕ) → length xs ≤ 256 → ((x : ℕ) → List·Memᴰ x xs → x < 1000) → Short (lastLine xs) 1032
-unfolding lastLine
-last-short [] h s = within 5 1032 (omega arith) (said (overWord ++ feed))
-last-short (x ∷ xs) h s = joined 7 1025 (said enabledWord) (joined 1024 1 (within (4 * length (x ∷ xs)) 1024 (omega (arith, h)) (fields-short (x ∷ xs) s)) (said feed))
+-- at most 256 rows, of three digits each
+pub record FewRows (xs : List ℕ) : Type 0 where
+  pub few : length xs ≤ 256
+  pub small : (x : ℕ) → List·Memᴰ x xs → x < 1000
+
+rows-short : (word xs : List ℕ) → Short word 7 → FewRows xs → Short (rowsLine word xs) 1032
+unfolding rowsLine
+rows-short word xs w h = joined 7 1025 w (joined 1024 1 (within (4 * length xs) 1024 (omega (arith, h .few)) (fields-short xs (h .small))) (said feed))
+
+pub last-short : (a : StandingAnswer) (steps waiting : List ℕ) → FewRows steps → FewRows waiting → Short (lastLine a steps waiting) 1032
+unfolding lastLine finishedLine
+last-short standing.Enabled steps waiting s w = rows-short enabledWord steps (said enabledWord) s
+last-short standing.Finished steps waiting s w = within 9 1032 (omega arith) (said (finishedWord ++ feed))
+last-short (standing.Waiting count) steps waiting s w = rows-short waitingWord waiting (said waitingWord) w
+last-short (standing.Refused number place) steps waiting s w = within 50 1032 (omega arith) (refused-short number place)

@@ -11,7 +11,7 @@ use lib.Seq.{drop-cons, sets, sets-eq}
 use borrow.Author.Tests.{lt-ltb, le-ltb, le-leb, ne-eqb}
 use Rattle.laws.specs.Listed.{written}
 use Rattle.lines.specs.Page.{Page, page, more, added}
-use Rattle.lines.specs.Lines.{field, fields, feed, letter, letters, linksWord, linksLine, overWord, enabledWord, lastLine}
+use Rattle.lines.specs.Lines.{field, fields, feed, letter, letters, linksWord, linksLine}
 
 pub added-append : (p : Page) (xs ys : List ℕ) → added (added p xs) ys ≡ added p (xs ++ ys)
 unfolding added
@@ -88,16 +88,6 @@ letters-end xs i h = ap letters (drop-of-length-le xs h)
 pub fields-end : (xs : List ℕ) (i : ℕ) → length xs ≤ i → fields (drop i xs) ≡ []
 unfolding fields
 fields-end xs i h = ap fields (drop-of-length-le xs h)
-
-pub last-over : (xs : List ℕ) → length xs ≡ 0 → lastLine xs ≡ overWord ++ feed
-unfolding lastLine
-last-over [] h = refl
-last-over (x ∷ xs) h = absurd (omega (arith, h))
-
-pub last-enabled : (xs : List ℕ) → (length xs ≡ 0 → ⊥) → lastLine xs ≡ enabledWord ++ (fields xs ++ feed)
-unfolding lastLine
-last-enabled [] h = absurd (h refl)
-last-enabled (x ∷ xs) h = refl
 
 pub links-none : (m : ℕ) (xs : List ℕ) → m ≡ 0 → linksLine m xs ≡ linksWord ++ feed
 unfolding linksLine

@@ -8,6 +8,8 @@ use Rattle.state.specs.declared.StepKind.{StepKind}
 use Rattle.state.specs.declared.StepKind.the-variants as kind
 use Rattle.sheet_engine.specs.declared.VerdictAnswer.{VerdictAnswer}
 use Rattle.sheet_engine.specs.declared.VerdictAnswer.the-variants as verdict
+use Rattle.sheet_engine.specs.declared.StandingAnswer.{StandingAnswer}
+use Rattle.sheet_engine.specs.declared.StandingAnswer.the-variants as standing
 
 -- "Fields and row numbers are decimal": twenty digits hold every number of 64 bits
 abbrev pub glyph : ℕ → ℕ
@@ -90,13 +92,26 @@ letters (x ∷ xs) = letter x ∷ letters xs
 unfoldable pub linksLine : ℕ → List ℕ → List ℕ
 linksLine m values = linksWord ++ (cond (eqb m 0) [] (32 ∷ letters (take m values)) ++ feed)
 
--- ""over", or "enabled" with the rows"
-abbrev pub overWord : List ℕ
-overWord = 111 ∷ (118 ∷ (101 ∷ (114 ∷ [])))
-
+-- the words of the last line
 abbrev pub enabledWord : List ℕ
 enabledWord = 101 ∷ (110 ∷ (97 ∷ (98 ∷ (108 ∷ (101 ∷ (100 ∷ []))))))
 
-unfoldable pub lastLine : List ℕ → List ℕ
-lastLine [] = overWord ++ feed
-lastLine (r ∷ rs) = enabledWord ++ (fields (r ∷ rs) ++ feed)
+abbrev pub waitingWord : List ℕ
+waitingWord = 119 ∷ (97 ∷ (105 ∷ (116 ∷ (105 ∷ (110 ∷ (103 ∷ []))))))
+
+abbrev pub finishedWord : List ℕ
+finishedWord = 102 ∷ (105 ∷ (110 ∷ (105 ∷ (115 ∷ (104 ∷ (101 ∷ (100 ∷ [])))))))
+
+-- a word, and rows
+unfoldable pub rowsLine : List ℕ → List ℕ → List ℕ
+rowsLine word rows = word ++ (fields rows ++ feed)
+
+unfoldable pub finishedLine : List ℕ
+finishedLine = finishedWord ++ feed
+
+-- ""enabled" with the rows." Document 02, request 1: "The program prints "finished", or "waiting" with those rows in rising order." By how the state stands, the steps that are listed, and the rows that it waits for.
+unfoldable pub lastLine : StandingAnswer → List ℕ → List ℕ → List ℕ
+lastLine standing.Enabled steps waiting = rowsLine enabledWord steps
+lastLine standing.Finished steps waiting = finishedLine
+lastLine (standing.Waiting count) steps waiting = rowsLine waitingWord waiting
+lastLine (standing.Refused number place) steps waiting = refusedLine number place

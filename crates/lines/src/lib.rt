@@ -3,7 +3,7 @@ ghost use mathlib.Core.Path.{_≡_};
 ghost use Prim.Native.Nat.{_≤_};
 ghost use lib.ListN.{length};
 ghost use Rattle.lines.specs.Page.{page, more, added};
-ghost use Rattle.lines.specs.Lines.{decimal, field, fields, namedLine, stepLine, verdictLine, refusedLine, letter, letters, linksLine, lastLine};
+ghost use Rattle.lines.specs.Lines.{decimal, field, fields, namedLine, stepLine, verdictLine, refusedLine, letter, letters, linksLine, enabledWord, waitingWord, rowsLine, finishedLine};
 ghost use Rattle.state.specs.declared.StepKind.the-variants.{Act, Set};
 ghost use Rattle.sheet_engine.specs.declared.VerdictAnswer.the-variants.{Fail};
 use sheet_engine::VerdictAnswer;
@@ -183,14 +183,32 @@ pub fn links_line(out: &mut [u8], at: usize, m: usize, values: &[u8]) -> usize
     put(out, lettered, 10)
 }
 
-// The rows that have a step, or that there is none.
-pub fn last_line(out: &mut [u8], at: usize, rows: &[u8]) -> usize
-    ensures { λ r. ⌜ page (now (out .exit)) r ≡ added (page (now (out .entry)) at) (lastLine (now (rows .entry))) ⌝ }
+// A word, and rows.
+fn rows_line(out: &mut [u8], at: usize, word: &[u8], rows: &[u8]) -> usize
+    ensures { λ r. ⌜ page (now (out .exit)) r ≡ added (page (now (out .entry)) at) (rowsLine (now (word .entry)) (now (rows .entry))) ⌝ }
 {
-    if rows.len() == 0 {
-        return text(out, at, b"over\n");
-    }
-    let said = text(out, at, b"enabled");
+    let said = text(out, at, word);
     let listed = numbers(out, said, rows);
     put(out, listed, 10)
+}
+
+// The rows that have a step.
+pub fn enabled_line(out: &mut [u8], at: usize, rows: &[u8]) -> usize
+    ensures { λ r. ⌜ page (now (out .exit)) r ≡ added (page (now (out .entry)) at) (rowsLine enabledWord (now (rows .entry))) ⌝ }
+{
+    rows_line(out, at, b"enabled", rows)
+}
+
+// The JOIN rows that are waited for.
+pub fn waiting_line(out: &mut [u8], at: usize, rows: &[u8]) -> usize
+    ensures { λ r. ⌜ page (now (out .exit)) r ≡ added (page (now (out .entry)) at) (rowsLine waitingWord (now (rows .entry))) ⌝ }
+{
+    rows_line(out, at, b"waiting", rows)
+}
+
+// Nothing is left to do.
+pub fn finished_line(out: &mut [u8], at: usize) -> usize
+    ensures { λ r. ⌜ page (now (out .exit)) r ≡ added (page (now (out .entry)) at) finishedLine ⌝ }
+{
+    text(out, at, b"finished\n")
 }

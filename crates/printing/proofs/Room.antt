@@ -32,20 +32,22 @@ use Rattle.codec.specs.Answers.{Bytes}
 use Rattle.state.specs.declared.State.{State}
 use Rattle.state.specs.State.{freshOf}
 use Rattle.moves.specs.Steps.{marksOf, nodes, turnAt, kindOf, kindBy, kindTurned, kindAt, hasStep, steppedOf, listedOf}
+use Rattle.moves.specs.Standing.{waitingOf}
 use Rattle.moves.specs.Fits.{modeCheck}
 use Rattle.moves.specs.Runs.{Run, done, taken}
 use Rattle.moves.specs.Runs as runs
 use Rattle.moves.proofs.Moves.{has-turn, turn-fronts, turn-parts}
+use Rattle.moves.proofs.Standing.{waiting-below}
 use Rattle.moves.proofs.Kept.{run-length}
 use Rattle.verdict.specs.declared.Verdict.{Verdict}
 use Rattle.verdict.specs.declared.Verdict.the-variants as verdict
 use Rattle.verdict.specs.Verdict.{verdictOf}
 use Rattle.sheet_engine.specs.declared.VerdictAnswer.the-variants as answer
-use Rattle.sheet_engine.specs.Answers.{given, verdictAnswer}
+use Rattle.sheet_engine.specs.Answers.{given, verdictAnswer, standingOf}
 use Rattle.sheet_engine.proofs.Promises.{fail-values}
 use Rattle.sheet_engine.proofs.Steps.{no-kind}
 use Rattle.promises.specs.Calls.{Accepted}
-use Rattle.promises.proofs.Calls.{formed, unrefused, few-listed, stepped}
+use Rattle.promises.proofs.Calls.{formed, unrefused, few-listed, few-waiting, stepped}
 use Rattle.promises.proofs.Fresh.{fresh-state}
 use Rattle.lines.specs.Page.{page, added}
 use Rattle.lines.specs.Lines.{refusedLine, verdictLine, stepLine}
@@ -123,10 +125,14 @@ untaken-short : (t : Table) (s : State) (r : ℕ) → hasStep t s r ≡ false �
 unfolding stepLine
 untaken-short t s r e = rw (no-kind t s r e) (refused-short 11 r)
 
--- THE END: the listed rows are below n
+-- THE END: the rows that are listed or waited for are below n
 end-short : (t : Table) (s : State) → Accepted t s → Short (endLines t s) ending
 unfolding endLines listedOf
-end-short t s g = joined 71 1032 (links-short (t .m) (s .links) (formed g .few-links)) (last-short (listedOf t s) (few-listed t s (unrefused t s g)) (λ x m. omega (arith, listed-under (hasStep t s) 0 (t .n) x m, formed g .few-terms)))
+end-short t s g =
+    joined 71 1032 (links-short (t .m) (s .links) (formed g .few-links))
+    (last-short (standingOf t s) (listedOf t s) (waitingOf t s)
+    (record { few = few-listed t s (unrefused t s g); small = λ x m. omega (arith, listed-under (hasStep t s) 0 (t .n) x m, formed g .few-terms) })
+    (record { few = few-waiting t s (unrefused t s g); small = λ x m. omega (arith, waiting-below t s x m, formed g .few-terms) }))
 
 -- the lines of the steps that a run takes
 steps-short : (t : Table) → Bytes (t .terms) → (s : State) (rows : List ℕ) → Accepted t s → (R : Run t s) × Short (stepLines t s rows) (length (taken R) * 18 + ending)

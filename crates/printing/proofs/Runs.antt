@@ -2,6 +2,7 @@
 use mathlib.Core.Path.{_≡_, refl, sym, ap, subst, _∙_}
 use mathlib.Core.Bool.{true, false, cond}
 use mathlib.Core.List.{List, [], _++_}
+use mathlib.Core.Logic.{⊎-elim}
 use Prim.Native.Nat.{ℕ, _+_, _≤_, _<_}
 use native.Mathlib.Omega.{arith}
 use lib.ListN.{length, length-append, take, drop, drop-of-length-le, getD}
@@ -11,11 +12,16 @@ use Rattle.codec.specs.declared.SizeAnswer.{SizeAnswer}
 use Rattle.codec.specs.declared.SizeAnswer.the-variants as size
 use Rattle.state.specs.declared.State.{State}
 use Rattle.moves.specs.Steps.{kindAt, hasStep, steppedOf, listedOf}
+use Rattle.moves.specs.Standing.{waitingOf}
 use Rattle.engine.specs.declared.Stepped.{Stepped}
-use Rattle.sheet_engine.specs.Answers.{listAnswer, listBuffer, stepAnswer}
+use Rattle.sheet_engine.specs.declared.StandingAnswer.{StandingAnswer}
+use Rattle.sheet_engine.specs.declared.StandingAnswer.the-variants as standing
+use Rattle.sheet_engine.specs.Answers.{listAnswer, listBuffer, standingOf, standingAnswer, standingBuffer, stepAnswer}
+use Rattle.sheet_engine.specs.Values.{standingValues}
+use Rattle.sheet_engine.proofs.Stands.{stands-rows, one-word}
 use Rattle.promises.specs.Calls.{Accepted, countOf}
-use Rattle.promises.proofs.Calls.{unrefused, list-answers, few-listed, ok-is, answer-is, state-is, stepped}
-use Rattle.lines.specs.Lines.{stepLine}
+use Rattle.promises.proofs.Calls.{refusal, unrefused, list-answers, few-listed, standing-is, few-waiting, ok-is, answer-is, state-is, stepped}
+use Rattle.lines.specs.Lines.{stepLine, lastLine}
 use Rattle.lines.proofs.Pages.{next as next-of}
 use Rattle.printing.specs.Printed.{endLines, stepLines}
 
@@ -26,29 +32,57 @@ size-unrefused a n p e = let z : _≡_ {A = ℕ} 0 1 = ap told e in omega (arith
     told (size.Size n) = 1
     told (size.Refused n p) = 0
 
+-- rows at the front of a buffer
+module _ (found lent rows : List ℕ) (count : ℕ) (counted : count ≡ length found) (are : rows ≡ found ++ drop (length found) lent) where
+  lies : count ≤ length rows
+  lies = let e : length rows ≡ length found + length (drop (length found) lent) = ap length are ∙ length-append found (drop (length found) lent) in omega (arith, e, counted)
+
+  part : take count rows ≡ found
+  part = ap (take count) are ∙ take-at found (drop (length found) lent) count (sym counted)
+
 -- a buffer of 256 bytes takes every list
 module _ (t : Table) (s : State) (a : Accepted t s) (lent : List ℕ) (long : length lent ≡ 256) where
-  abbrev found : List ℕ
-  found = listedOf t s
+  free : refusal t s .number ≡ 0
+  free = unrefused t s a
 
-  enough : length found ≤ length lent
-  enough = omega (arith, few-listed t s (unrefused t s a), long)
+  listed-told : (listAnswer t s (length lent) ≡ size.Size (length (listedOf t s))) × (listBuffer t s lent ≡ listedOf t s ++ drop (length (listedOf t s)) lent)
+  listed-told = list-answers t s free lent (omega (arith, few-listed t s free, long))
+
+  standing-told : (standingAnswer t s (length lent) ≡ standingOf t s) × (standingBuffer t s lent ≡ waitingOf t s ++ drop (length (waitingOf t s)) lent)
+  standing-told = standing-is t s free lent (omega (arith, few-waiting t s free, long))
 
   module _ (rows : List ℕ) (count : ℕ) (told : size.Size count ≡ listAnswer t s (length lent)) (left : rows ≡ listBuffer t s lent) where
-    count-is : count ≡ length found
-    count-is = ap countOf (told ∙ list-answers t s (unrefused t s a) lent enough .0)
-
-    rows-are : rows ≡ found ++ drop (length found) lent
-    rows-are = left ∙ list-answers t s (unrefused t s a) lent enough .1
-
     pub list-lies : count ≤ length rows
-    list-lies = let e : length rows ≡ length found + length (drop (length found) lent) = ap length rows-are ∙ length-append found (drop (length found) lent) in omega (arith, e, count-is)
+    list-lies = lies (listedOf t s) lent rows count (ap countOf (told ∙ listed-told .0)) (left ∙ listed-told .1)
 
-    pub list-part : take count rows ≡ found
-    list-part = ap (take count) rows-are ∙ take-at found (drop (length found) lent) count (sym count-is)
+    pub list-part : take count rows ≡ listedOf t s
+    list-part = part (listedOf t s) lent rows count (ap countOf (told ∙ listed-told .0)) (left ∙ listed-told .1)
 
   pub list-unrefused : (n p : ℕ) → size.Refused n p ≡ listAnswer t s (length lent) → ⊥
-  list-unrefused n p told = size-unrefused _ n p (told ∙ list-answers t s (unrefused t s a) lent enough .0)
+  list-unrefused n p told = size-unrefused _ n p (told ∙ listed-told .0)
+
+  -- ... and every row that is waited for
+  module _ (answer : StandingAnswer) (told : answer ≡ standingAnswer t s (length lent)) where
+    stands : answer ≡ standingOf t s
+    stands = told ∙ standing-told .0
+
+    pub line-of : (b : StandingAnswer) → answer ≡ b → lastLine b (listedOf t s) (waitingOf t s) ≡ lastLine (standingOf t s) (listedOf t s) (waitingOf t s)
+    line-of b is = ap (λ (z : StandingAnswer). lastLine z (listedOf t s) (waitingOf t s)) (sym is ∙ stands)
+
+    pub stand-unrefused : (n p : ℕ) → standing.Refused n p ≡ answer → ⊥
+    stand-unrefused n p e =
+        let w : 0 ≡ standingValues (standingOf t s) .word = ap (λ (z : StandingAnswer). standingValues z .word) (e ∙ stands) in
+        ⊎-elim (λ f. omega (arith, w, f)) (⊎-elim (λ f. omega (arith, w, f)) (λ f. omega (arith, w, f))) (one-word t s)
+
+    module _ (rows : List ℕ) (count : ℕ) (is : answer ≡ standing.Waiting count) (left : rows ≡ standingBuffer t s lent) where
+      waited : count ≡ length (waitingOf t s)
+      waited = ap (λ (z : StandingAnswer). standingValues z .rows) (sym is ∙ stands) ∙ stands-rows t s .1
+
+      pub waited-lies : count ≤ length rows
+      waited-lies = lies (waitingOf t s) lent rows count waited (left ∙ standing-told .1)
+
+      pub waited-part : take count rows ≡ waitingOf t s
+      waited-part = part (waitingOf t s) lent rows count waited (left ∙ standing-told .1)
 
 -- the next step's line, and what comes after it
 module _ (t : Table) (s : State) (a : Accepted t s) (rows : List ℕ) (i : ℕ) (inside : i < length rows) (next : Stepped) (told : next ≡ stepAnswer t s (getD rows i 0)) where

@@ -6,7 +6,8 @@ ghost use Rattle.laws.specs.Checks.{checked};
 ghost use Rattle.laws.specs.Listed.{written};
 ghost use Rattle.sheet.specs.Table.{tableOf};
 ghost use Rattle.lines.specs.Page.{page, added};
-ghost use Rattle.lines.specs.Lines.{refusedLine};
+ghost use Rattle.moves.specs.Steps.{listedOf};
+ghost use Rattle.lines.specs.Lines.{refusedLine, enabledWord, rowsLine};
 ghost use Rattle.sheet_engine.specs.Answers.{startChecks, stepAnswer};
 ghost use Rattle.printing.specs.Printed.{endLines, stepLines, runLines, sheetLines, printed};
 ghost use Rattle.promises.specs.Calls.{Accepted};
@@ -14,12 +15,25 @@ use codec::SheetAnswer;
 use codec::SizeAnswer;
 use engine::Stepped;
 use sheet::Head;
+use sheet_engine::StandingAnswer;
 use state::State;
 
-// No output is longer: the verdict's line, 256 steps, the links, and 256 rows that have a step.
+// No output is longer: the verdict's line, 256 steps, the links, and 256 rows that have a step or are waited for.
 pub const LONGEST: usize = 25 + 256 * 18 + 71 + 1032;
 
-// The links, and the rows that have a step.
+// The rows that have a step.
+fn listed_line(out: &mut [u8], at: usize, s: State, h: Head, ts: &[u8], cs: &[u8]) -> usize
+    requires { ⌜ Accepted (tableOf h (now ts) (now cs)) s ⌝ }
+    ensures { λ r. ⌜ page (now (out .exit)) r ≡ added (page (now (out .entry)) at) (rowsLine enabledWord (listedOf (tableOf h (now (ts .entry)) (now (cs .entry))) s)) ⌝ }
+{
+    let mut rows = [0; 256];
+    match sheet_engine::list_steps(s, h, ts, cs, &mut rows) {
+        SizeAnswer::Size(count) => lines::enabled_line(out, at, &rows[..count]),
+        SizeAnswer::Refused(number, place) => lines::refused_line(out, at, number, place),
+    }
+}
+
+// The links, and how the state stands.
 fn end_lines(out: &mut [u8], at: usize, s: State, h: Head, ts: &[u8], cs: &[u8]) -> usize
     requires { ⌜ Accepted (tableOf h (now ts) (now cs)) s ⌝ }
     ensures { λ r. ⌜ page (now (out .exit)) r ≡ added (page (now (out .entry)) at) (endLines (tableOf h (now (ts .entry)) (now (cs .entry))) s) ⌝ }
@@ -27,9 +41,11 @@ fn end_lines(out: &mut [u8], at: usize, s: State, h: Head, ts: &[u8], cs: &[u8])
     let links = s.links;
     let end = lines::links_line(out, at, h.m, &links);
     let mut rows = [0; 256];
-    match sheet_engine::list_steps(s, h, ts, cs, &mut rows) {
-        SizeAnswer::Size(count) => lines::last_line(out, end, &rows[..count]),
-        SizeAnswer::Refused(number, place) => lines::refused_line(out, end, number, place),
+    match sheet_engine::standing(s, h, ts, cs, &mut rows) {
+        StandingAnswer::Enabled => listed_line(out, end, s, h, ts, cs),
+        StandingAnswer::Finished => lines::finished_line(out, end),
+        StandingAnswer::Waiting(count) => lines::waiting_line(out, end, &rows[..count]),
+        StandingAnswer::Refused(number, place) => lines::refused_line(out, end, number, place),
     }
 }
 

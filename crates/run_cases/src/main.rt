@@ -70,8 +70,9 @@ fn try_file(name: &[u8], path: &[u8], kind: Kind) {
 }
 
 fn main() {
-    try_file(b"document 01", b"examples.cases", Kind::Program);
-    try_file(b"more", b"base.cases", Kind::Program);
+    try_file(b"examples", b"examples.cases", Kind::Program);
+    try_file(b"base", b"base.cases", Kind::Program);
+    try_file(b"request 1", b"level-1.cases", Kind::Program);
     try_file(b"states", b"states-base.cases", Kind::States);
     try_file(b"tables", b"tables-base.cases", Kind::Tables);
 }
