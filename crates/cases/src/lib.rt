@@ -12,6 +12,9 @@ pub const END: usize = 4294967296;
 // More than the rows of any table take, and more than any case lends.
 pub const SPACE: usize = 8192;
 
+// What each byte of a lent buffer is before the call.
+pub const BLANK: u8 = 170;
+
 // The call, its argument, and how many bytes of buffer to lend.
 pub struct Asked {
     pub call: u8,
@@ -24,6 +27,15 @@ pub struct Given {
     pub head: Head,
     pub terms: usize,
     pub conditions: usize,
+}
+
+// What a case tells: number and place of the refusal; or 0 and 0, then a word and two values, 0 where it has none.
+pub struct Told {
+    pub number: u8,
+    pub place: usize,
+    pub word: u8,
+    pub x: usize,
+    pub y: usize,
 }
 
 pub fn wide(x: u8) -> usize
@@ -124,6 +136,33 @@ pub fn lend(out: &mut [u8], room: usize) -> &mut [u8] {
         return out;
     }
     &mut out[..room]
+}
+
+// A refusal tells no word.
+pub fn told_refused(number: u8, place: usize) -> Told {
+    Told {
+        number,
+        place,
+        word: 0,
+        x: 0,
+        y: 0,
+    }
+}
+
+// A word where nothing is refused.
+pub fn told_word(word: u8, x: usize, y: usize) -> Told {
+    Told {
+        number: 0,
+        place: 0,
+        word,
+        x,
+        y,
+    }
+}
+
+// Whether two cases tell the same.
+pub fn same_told(a: Told, b: Told) -> bool {
+    (a.number == b.number) & (a.place == b.place) & (a.word == b.word) & (a.x == b.x) & (a.y == b.y)
 }
 
 pub fn same_state(a: State, b: State) -> bool {

@@ -4,11 +4,12 @@ use libc::STDOUT_FILENO;
 // More than any text of a case of the program.
 const TEXT: usize = 65792;
 
-// What answers an input: the program; the calls on a state; the calls on a table.
+// What answers an input: the program; the calls on a state; the calls on a table; the call that tells how a state stands.
 enum Kind {
     Program,
     States,
     Tables,
+    Standing,
 }
 
 fn prints(input: &[u8], expected: &[u8]) -> bool {
@@ -37,6 +38,7 @@ fn next_case(file: i32, kind: Kind) -> u8 {
         Kind::Program => program_agrees(file, given) as u8,
         Kind::States => state_cases::agrees(file) as u8,
         Kind::Tables => table_cases::agrees(file) as u8,
+        Kind::Standing => standing_cases::agrees(file) as u8,
     }
 }
 
@@ -75,4 +77,5 @@ fn main() {
     try_file(b"request 1", b"level-1.cases", Kind::Program);
     try_file(b"states", b"states-base.cases", Kind::States);
     try_file(b"tables", b"tables-base.cases", Kind::Tables);
+    try_file(b"standing", b"standing-1.cases", Kind::Standing);
 }

@@ -1,46 +1,23 @@
 // Cases of calls on a state: the list of steps, and a step by its kind and by what it leaves.
 use cases::Asked;
+use cases::Told;
 use cases::byte;
 use cases::four;
+use cases::same_told;
+use cases::told_refused;
+use cases::told_word;
+use cases::wide;
 use sheet::Head;
 use state::State;
 use state::StepKind;
 
-// What a case tells of a step: number and place of its refusal; or 0 and 0, then 1 act, 2 set, 3 open or 4 clean, and two values.
-struct Told {
-    number: u8,
-    place: usize,
-    word: u8,
-    x: u8,
-    y: u8,
-}
-
-fn told_refused(number: u8, place: usize) -> Told {
-    Told {
-        number,
-        place,
-        word: 0,
-        x: 0,
-        y: 0,
-    }
-}
-
-fn told_step(word: u8, x: u8, y: u8) -> Told {
-    Told {
-        number: 0,
-        place: 0,
-        word,
-        x,
-        y,
-    }
-}
-
+// The words are 1 act, 2 set, 3 open, 4 clean.
 fn told_kind(kind: StepKind) -> Told {
     match kind {
-        StepKind::Act(activity) => told_step(1, activity, 0),
-        StepKind::Set(link, value) => told_step(2, link, value),
-        StepKind::Open => told_step(3, 0, 0),
-        StepKind::Clean => told_step(4, 0, 0),
+        StepKind::Act(activity) => told_word(1, wide(activity), 0),
+        StepKind::Set(link, value) => told_word(2, wide(link), wide(value)),
+        StepKind::Open => told_word(3, 0, 0),
+        StepKind::Clean => told_word(4, 0, 0),
         StepKind::Refused(number, place) => told_refused(number, place),
     }
 }
@@ -52,13 +29,15 @@ fn read_told(file: i32) -> Told {
         return told_refused(number, place);
     }
     let word = byte(file);
-    let x = byte(file);
-    let y = byte(file);
-    told_step(word, x, y)
-}
-
-fn same_told(a: Told, b: Told) -> bool {
-    (a.number == b.number) & (a.place == b.place) & (a.word == b.word) & (a.x == b.x) & (a.y == b.y)
+    let x = wide(byte(file));
+    let y = wide(byte(file));
+    Told {
+        number,
+        place,
+        word,
+        x,
+        y,
+    }
 }
 
 // The state that the step has to hand back: that of the case; where it is refused, the one that it was given.
@@ -90,7 +69,7 @@ fn step_agrees(file: i32, s: State, h: Head, ts: &[u8], cs: &[u8], row: usize) -
 }
 
 fn list_agrees(file: i32, s: State, h: Head, ts: &[u8], cs: &[u8], room: usize) -> bool {
-    let mut buffer = [170; cases::SPACE];
+    let mut buffer = [cases::BLANK; cases::SPACE];
     let out = cases::lend(&mut buffer, room);
     let answer = sheet_engine::list_steps(s, h, ts, cs, out);
     cases::size_agrees(file, answer, out)

@@ -95,7 +95,7 @@ fn others_agree(answer: SizeAnswer, out: &[u8], h: Head, ts: &[u8], cs: &[u8]) -
 }
 
 fn write_agrees(file: i32, h: Head, ts: &[u8], cs: &[u8], room: usize) -> bool {
-    let mut buffer = [170; cases::SPACE];
+    let mut buffer = [cases::BLANK; cases::SPACE];
     let out = cases::lend(&mut buffer, room);
     let answer = sheet_engine::write_sheet(h, ts, cs, out);
     let same = cases::size_agrees(file, answer, out);
