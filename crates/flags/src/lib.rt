@@ -11,13 +11,13 @@ pub fn count(flags: &[u8; 256], n: usize) -> usize
     requires { ⌜ n ≤ 256 ⌝ }
     ensures { λ r. ⌜ r ≡ length (listed (flagged (now (flags .entry))) 0 n) ⌝ }
 {
-    let mut found = 0;
+    let mut found: u16 = 0;
     let mut i = 0;
     while i < n {
-        found += (flags[i] == 1) as usize;
+        found += (flags[i] == 1) as u16;
         i += 1;
     }
-    found
+    found as usize
 }
 
 // Their numbers, in rising order.

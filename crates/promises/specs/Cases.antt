@@ -62,8 +62,8 @@ standsIn t s = Stands (standingAnswer t s 256) (waitingRows t s)
 
 unfoldable pub answerTo : Table → Question → Answer
 answerTo t verdict = Verdict (verdictAnswer t)
-answerTo t (standing mode rows) = standsIn t (stateAfter t (freshIn t mode) rows)
 answerTo t (after mode rows) = seenIn t (stateAfter t (freshIn t mode) rows) (tookAll t (freshIn t mode) rows)
+answerTo t (standing mode rows) = standsIn t (stateAfter t (freshIn t mode) rows)
 
 -- sheet X
 abbrev pub X : List ℕ
@@ -117,7 +117,7 @@ cases =
     of X (standing 0 (2 ∷ [])) (Stands (Waiting 1) (6 ∷ [])) ∷
     of X (standing 0 (4 ∷ [])) (Stands (Waiting 1) (6 ∷ [])) ∷
     of X (standing 1 (2 ∷ 6 ∷ 7 ∷ [])) (Stands Finished []) ∷
-    -- "cleaning may finish where plain waits": after 4, struck of the cleaning step 6
+    -- "cleaning may finish where plain waits": 4, and then the cleaning step 6
     of X (standing 1 (4 ∷ 6 ∷ [])) (Stands Finished []) ∷
     -- "lazy OR of links 0 and 1 passes", "strict, it fails with number 5, link 1"
     of (joinOn 1 3 (LINK 0 ++ LINK 1 ++ OR 0 1)) verdict (Verdict Pass) ∷

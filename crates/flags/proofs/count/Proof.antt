@@ -34,6 +34,9 @@ loop-less c = omega arith
 loop-again : tie.Need-loop-again Inv-loop μ-loop
 loop-again c = let l = c .before .before .loop in (omega arith, (omega (arith, bit-small (flagged (c .before .before .before .args .flags .now) (l .i))), counted-next _ _ (l .i) (l .found) (c .before .loop-test .taken) (l .inv .1 .1)))
 
+cast-result : tie.Need-cast-result Inv-loop μ-loop
+cast-result c = omega arith
+
 returns : tie.Need-returns Inv-loop μ-loop
 returns c = counted-end _ _ _ _ (c .loop-test .left) (c .before .loop .inv .1 .1)
 
@@ -50,4 +53,5 @@ count-spec =
     add-i
     loop-less
     loop-again
+    cast-result
     returns)
