@@ -1,2 +1,3 @@
 pub mod Tables
+pub mod Packed
 pub mod Rows

@@ -1,11 +1,11 @@
 -- Link values from bytes, and a table of the values of condition rows.
-use Prim.Native.Nat.{ℕ}
+use Prim.Native.Nat.{ℕ, _*_, _/_, _%_, _^_, _<_}
 use mathlib.Core.Path.{_≡_}
 use mathlib.Core.Bool.{cond}
 use mathlib.Core.List.{List}
 use lib.Dec.{ltb}
 use lib.ListN.{getD, length}
-use Rattle.laws.specs.Up.{Filled}
+use Rattle.laws.specs.Up.{below}
 use Rattle.calculus.specs.Status.{Unset, Links}
 use Rattle.conditions.specs.Numbers.{digit, undigit}
 use Rattle.sheet.specs.Table.{evalOf}
@@ -14,10 +14,10 @@ use Rattle.sheet.specs.Table.{evalOf}
 unfoldable pub linksIn : List ℕ → Links
 linksIn s l = cond (ltb l 64) (undigit (getD s l 0)) Unset
 
--- the table holds the values of the rows below k, and FALSE elsewhere, as an operand that is not below its row reads
-unfoldable pub Evaluated : ℕ → List ℕ → Links → ℕ → List ℕ → Type 0
-Evaluated e cs v k vals = (length vals ≡ 256) × Filled 1 (λ row. digit (evalOf e cs row v)) k vals
+-- the value of a row, from the table: two bits a row, four rows a byte, the first of them lowest
+unfoldable pub valueIn : List ℕ → ℕ → ℕ
+valueIn vals row = getD vals (row / 4) 0 / 2 ^ (row % 4 * 2) % 4
 
--- the value of a row, from the table
-abbrev pub valueIn : List ℕ → ℕ → ℕ
-valueIn vals row = getD vals row 0
+-- of 256 rows the table holds the values of those below k, and FALSE elsewhere, as an operand that is not below its row reads
+unfoldable pub Evaluated : ℕ → List ℕ → Links → ℕ → List ℕ → Type 0
+Evaluated e cs v k vals = (length vals ≡ 64) × ((row : ℕ) → row < 256 → valueIn vals row ≡ below 1 (λ j. digit (evalOf e cs j v)) k row)

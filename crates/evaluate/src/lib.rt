@@ -1,15 +1,15 @@
 // The values of condition rows under link values, in rising order of the rows.
 ghost use mathlib.Core.Path.{_≡_};
-ghost use Prim.Native.Nat.{_+_, _*_, _<_, _≤_};
-ghost use lib.ListN.{length, getD};
+ghost use Prim.Native.Nat.{ℕ, _+_, _*_, _<_, _≤_};
+ghost use lib.ListN.{length};
 ghost use Rattle.conditions.specs.Operators.{table};
 ghost use Rattle.conditions.specs.Numbers.{digit, undigit};
 ghost use Rattle.conditions.specs.ByRows.{strictly, operate, valueBy};
-ghost use Rattle.sheet.specs.Table.{operatorOf, conditionRowBy, conditionRowAt, lazyOf, evaluationOf};
+ghost use Rattle.sheet.specs.Table.{operatorOf, conditionRowBy, lazyOf, evaluationOf, evalOf};
 ghost use Rattle.evaluate.specs.Values.{linksIn, Evaluated, valueIn};
 
-// One value a condition row.
-pub type Values = [u8; 256];
+// Two bits a condition row, four rows a byte.
+pub type Values = [u8; 64];
 
 // AND, OR, EQ, NE; left operand unset, false, true; right operand in the same order.
 const TABLES: [[[u8; 3]; 3]; 4] = [
@@ -85,13 +85,20 @@ fn link_value(links: &[u8; 64], l: u8) -> u8
 pub fn value_in(vals: &Values, row: u8) -> u8
     ensures { λ r. ⌜ r ≡ valueIn (now (vals .entry)) row ⌝ }
 {
-    vals[row as usize]
+    (vals[(row / 4) as usize] >> (row % 4 * 2)) % 4
+}
+
+// Every row keeps its value but one, which held FALSE, that is 1, and gets x.
+fn put(vals: &mut Values, row: usize, x: u8)
+    requires { ⌜ (length (now vals) ≡ 64) × ((row < 256) × ((valueIn (now vals) row ≡ 1) × (x < 4))) ⌝ }
+    ensures { λ _. ⌜ (length (now (vals .exit)) ≡ 64) × (((j : ℕ) → (j ≡ row → ⊥) → valueIn (now (vals .exit)) j ≡ valueIn (now (vals .entry)) j) × (valueIn (now (vals .exit)) row ≡ x)) ⌝ }
+{
+    vals[row / 4] = vals[row / 4] ^ ((x ^ 1) << (row % 4 * 2));
 }
 
 // The value of a row, by its bytes.
 fn value_by(evaluation: u8, kind: u8, a: u8, b: u8, links: &[u8; 64], vals: &Values) -> u8
-    requires { ⌜ length (now vals) ≡ 256 ⌝ }
-    ensures { λ r. ⌜ r ≡ digit (valueBy (evaluationOf evaluation) (conditionRowBy kind a b) (linksIn (now (links .entry))) (λ j. undigit (getD (now (vals .entry)) j 1))) ⌝ }
+    ensures { λ r. ⌜ r ≡ digit (valueBy (evaluationOf evaluation) (conditionRowBy kind a b) (linksIn (now (links .entry))) (λ j. undigit (valueIn (now (vals .entry)) j))) ⌝ }
 {
     match kind {
         0 => 1,
@@ -107,24 +114,25 @@ fn value_by(evaluation: u8, kind: u8, a: u8, b: u8, links: &[u8; 64], vals: &Val
     }
 }
 
+// The value of a row, where the table holds those of the rows before it.
 fn step(evaluation: u8, cs: &[u8], row: usize, links: &[u8; 64], vals: &Values) -> u8
-    requires { ⌜ (row * 4 + 4 ≤ length (now cs)) × (length (now vals) ≡ 256) ⌝ }
-    ensures { λ r. ⌜ r ≡ digit (valueBy (evaluationOf evaluation) (conditionRowAt (now (cs .entry)) row) (linksIn (now (links .entry))) (λ j. undigit (getD (now (vals .entry)) j 1))) ⌝ }
+    requires { ⌜ (row * 4 + 4 ≤ length (now cs)) × Evaluated evaluation (now cs) (linksIn (now links)) row (now vals) ⌝ }
+    ensures { λ r. ⌜ r ≡ digit (evalOf evaluation (now (cs .entry)) row (linksIn (now (links .entry)))) ⌝ }
 {
     let at = row * 4;
     value_by(evaluation, cs[at], cs[at + 1], cs[at + 2], links, vals)
 }
 
-// The values of the first k rows.
+// The values of the first k rows; 85 is FALSE in each of a byte's four rows.
 pub fn values(evaluation: u8, cs: &[u8], k: usize, links: &[u8; 64]) -> Values
     requires { ⌜ (k * 4 ≤ length (now cs)) × (k ≤ 256) ⌝ }
     ensures { λ r. ⌜ Evaluated evaluation (now (cs .entry)) (linksIn (now (links .entry))) k r ⌝ }
 {
-    let mut vals = [1; 256];
+    let mut vals = [85; 64];
     let mut i = 0;
     while i < k {
         let v = step(evaluation, cs, i, links, &vals);
-        vals[i] = v;
+        put(&mut vals, i, v);
         i += 1;
     }
     vals

@@ -1,4 +1,9 @@
+use Prim.Native.Nat.{_+_, _*_}
+use mathlib.Core.Path.{_∙_, ap}
+use native.Mathlib.Omega.{arith}
+use Rattle.conditions.specs.Numbers.{digit}
 use Rattle.sheet.specs.Table.{conditionRowAt}
+use Rattle.evaluate.proofs.Rows.{found}
 use borrow.Author.Needs.{needs}
 use Rattle.evaluate.proofs.step.Statement.{statement}
 use Rattle.evaluate.proofs.step.Tie as tie
@@ -26,7 +31,9 @@ value-by-requires c κs = search needs
 
 returns : tie.Need-returns
 unfolding conditionRowAt
-returns c = c .value-by .ensures
+returns c = let s = c .before .before .before .before .before in
+    let known = c .before .shared-slice-known4 .given in
+    c .value-by .ensures ∙ ap digit (found _ _ _ _ _ (s .pre .1) (omega (arith, known (s .args .row * 4 + 1))) (omega (arith, known (s .args .row * 4 + 2))))
 
 pub step-spec : {M : Type 1} → statement M
 step-spec =

@@ -1,5 +1,3 @@
-use Rattle.evaluate.proofs.Rows.{getD-any}
-use native.Mathlib.Omega.{arith}
 use borrow.Author.Tests.{lt-ltb, le-ltb, ne-eqb}
 use Rattle.conditions.specs.Numbers.{digit}
 use Rattle.conditions.specs.ByRows.{valueBy}
@@ -38,8 +36,7 @@ returns-3 c = rw (c .before .match .keys3) (c .link-value .ensures)
 returns-4 : tie.Need-returns-4
 unfolding conditionRowBy valueBy
 returns-4 c = let m = c .before .before .before .before .match .rest in
-    let a = c .before .before .before .before .before .args in
-    rw (ne-eqb _ 0 (m .0 .0 .1), ne-eqb _ 1 (m .0 .1), ne-eqb _ 2 (m .1), lt-ltb _ 7 (c .before .before .before .if1 .taken), getD-any (a .vals .now) (a .a) 1 0 (omega arith), getD-any (a .vals .now) (a .b) 1 0 (omega arith)) cc
+    rw (ne-eqb _ 0 (m .0 .0 .1), ne-eqb _ 1 (m .0 .1), ne-eqb _ 2 (m .1), lt-ltb _ 7 (c .before .before .before .if1 .taken)) cc
 
 returns-5 : tie.Need-returns-5
 unfolding conditionRowBy valueBy digit

@@ -1,7 +1,9 @@
-use mathlib.Core.Path.{_≡_}
+use mathlib.Core.Path.{_≡_, _∙_}
+use Rattle.conditions.proofs.Numbers.{digit-small}
 use Prim.Native.Nat.{_≤_, _-_}
+use Rattle.sheet.specs.Table.{evalOf}
 use Rattle.evaluate.specs.Values.{linksIn, Evaluated}
-use Rattle.evaluate.proofs.Rows.{evaluated-none, evaluated-long, evaluated-more}
+use Rattle.evaluate.proofs.Rows.{evaluated-none, evaluated-long, evaluated-next, evaluated-more}
 use native.Mathlib.Omega.{arith}
 use Rattle.evaluate.proofs.values.Statement.{statement}
 use Rattle.evaluate.proofs.values.Tie as tie
@@ -16,10 +18,12 @@ loop-holds : tie.Need-loop-holds Inv-loop μ-loop
 loop-holds c = (omega arith, evaluated-none _ _ _)
 
 step-requires : tie.Need-step-requires Inv-loop μ-loop
-step-requires c κs = (omega arith, evaluated-long _ _ _ _ _ (c .before .before .loop .inv .1))
+step-requires c κs = (omega arith, c .before .before .loop .inv .1)
 
-array-write-vals : tie.Need-array-write-vals Inv-loop μ-loop
-array-write-vals c = omega (arith, evaluated-long _ _ _ _ _ (c .before .before .before .loop .inv .1))
+put-requires : tie.Need-put-requires Inv-loop μ-loop
+put-requires c κs = let l = c .before .before .before .before .loop in
+    let a = c .before .before .before .before .before .before .args in
+    (evaluated-long _ _ _ _ _ (l .inv .1), (omega arith, (evaluated-next _ _ _ _ _ (l .inv .1) (omega arith), omega (arith, c .before .step .ensures, digit-small (evalOf (a .evaluation) (a .cs .now) (l .i) (linksIn (a .links .now)))))))
 
 add-i : tie.Need-add-i Inv-loop μ-loop
 add-i c = omega arith
@@ -28,8 +32,9 @@ loop-less : tie.Need-loop-less Inv-loop μ-loop
 loop-less c = omega arith
 
 loop-again : tie.Need-loop-again Inv-loop μ-loop
-loop-again c = let l = c .before .before .before .loop in
-    (omega arith, evaluated-more _ _ _ (l .i) (l .vals) (l .inv .1) _ (omega arith) (c .step .ensures))
+loop-again c = let l = c .before .before .before .before .before .loop in
+    let p = c .put .ensures in
+    (omega arith, evaluated-more _ _ _ (l .i) (l .vals) (l .inv .1) (c .put .last .0) (p .0) (p .1 .0) (p .1 .1 ∙ c .before .before .step .ensures))
 
 returns : tie.Need-returns Inv-loop μ-loop
 returns c = let e : c .before .loop .i ≡ c .before .before .before .args .k = omega arith in
@@ -43,7 +48,7 @@ values-spec =
     μ-loop
     loop-holds
     step-requires
-    array-write-vals
+    put-requires
     add-i
     loop-less
     loop-again
