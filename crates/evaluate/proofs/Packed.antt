@@ -10,7 +10,7 @@ use lib.ListN.{getD, length, set, replicate, getD-replicate}
 use lib.Seq.{getD-set-same, getD-set-other}
 use Rattle.evaluate.specs.Values.{valueIn}
 
--- what holds at each of the four places
+-- what holds of 0 to 3 holds of every number below 4
 each : (P : ℕ → Type 0) → P 0 → P 1 → P 2 → P 3 → (i : ℕ) → i < 4 → P i
 each P p q r s zero h = p
 each P p q r s (suc zero) h = q

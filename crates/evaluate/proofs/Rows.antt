@@ -60,6 +60,7 @@ module _ (e : ℕ) (cs : List ℕ) (v : Links) where
     unfolding Evaluated
     evaluated-long = s .0
 
+    -- the row that comes next still holds FALSE
     pub evaluated-next : k < 256 → valueIn vals k ≡ 1
     unfolding Evaluated
     evaluated-next h = s .1 k h ∙ below-out 1 numberAt k k (omega arith)
