@@ -8,7 +8,7 @@ use native.Mathlib.Decide.{ℕ-discrete}
 use lib.Bits.{bitXor, xor-shr, xor-mod, xor-zero-r}
 use lib.ListN.{getD, length, set, replicate, getD-replicate}
 use lib.Seq.{getD-set-same, getD-set-other}
-use Rattle.evaluate.specs.Values.{valueIn}
+use Rattle.evaluate.specs.Values.{bitsAt, valueIn}
 
 -- what holds of 0 to 3 holds of every number below 4
 each : (P : ℕ → Type 0) → P 0 → P 1 → P 2 → P 3 → (i : ℕ) → i < 4 → P i
@@ -18,20 +18,17 @@ each P p q r s (suc (suc zero)) h = r
 each P p q r s (suc (suc (suc zero))) h = s
 each P p q r s (suc (suc (suc (suc i)))) h = absurd (omega arith)
 
--- the value at a place, and y moved there
-abbrev bits : ℕ → ℕ → ℕ
-bits b i = b / 2 ^ (i * 2) % 4
-
+-- y moved to a place
 abbrev moved : ℕ → ℕ → ℕ
 moved y i = y * 2 ^ (i * 2) % 256
 
--- y stands at its place, and 0 at the others
+-- it stands there, and 0 at the others
 module _ (y : ℕ) (small : y < 4) where
-  moved-same : (i : ℕ) → i < 4 → bits (moved y i) i ≡ y
-  moved-same = each (λ i. bits (moved y i) i ≡ y) (omega arith) (omega arith) (omega arith) (omega arith)
+  moved-same : (i : ℕ) → i < 4 → bitsAt (moved y i) i ≡ y
+  moved-same = each (λ i. bitsAt (moved y i) i ≡ y) (omega arith) (omega arith) (omega arith) (omega arith)
 
   abbrev Clear : ℕ → ℕ → Type 0
-  Clear i j = (j ≡ i → ⊥) → bits (moved y i) j ≡ 0
+  Clear i j = (j ≡ i → ⊥) → bitsAt (moved y i) j ≡ 0
 
   moved-other : (i : ℕ) → i < 4 → (j : ℕ) → j < 4 → Clear i j
   moved-other =
@@ -41,36 +38,36 @@ module _ (y : ℕ) (small : y < 4) where
       (each (Clear 2) (λ n. omega arith) (λ n. omega arith) (λ n. absurd (n refl)) (λ n. omega arith))
       (each (Clear 3) (λ n. omega arith) (λ n. omega arith) (λ n. omega arith) (λ n. absurd (n refl)))
 
-bits-xor : (a b i : ℕ) → bits (bitXor a b) i ≡ bitXor (bits a i) (bits b i)
+bits-xor : (a b i : ℕ) → bitsAt (bitXor a b) i ≡ bitXor (bitsAt a i) (bitsAt b i)
 bits-xor a b i = ap (λ (x : ℕ). x % 4) (xor-shr a b (i * 2)) ∙ xor-mod (a / 2 ^ (i * 2)) (b / 2 ^ (i * 2)) 2
 
--- y below 4, put to the bits of a row by `bitXor`, changes the value of that row alone
+-- turning over the bits of y, below 4, at a row's place changes the value of that row alone
 module _ (vals : List ℕ) (row y : ℕ) (room : row / 4 < length vals) (small : y < 4) where
   abbrev byte : ℕ
   byte = getD vals (row / 4) 0
 
-  abbrev turned : List ℕ
-  turned = set vals (row / 4) (bitXor byte (moved y (row % 4)))
+  abbrev after : ℕ
+  after = bitXor byte (moved y (row % 4))
 
-  pub turned-same : valueIn turned row ≡ bitXor (valueIn vals row) y
+  pub turned-same : valueIn (set vals (row / 4) after) row ≡ bitXor (valueIn vals row) y
   unfolding valueIn
   turned-same =
-      rw (getD-set-same vals (row / 4) (bitXor byte (moved y (row % 4))) 0 room)
-      (bits-xor byte (moved y (row % 4)) (row % 4) ∙ ap (bitXor (bits byte (row % 4))) (moved-same y small (row % 4) (omega arith)))
+      rw (getD-set-same vals (row / 4) after 0 room)
+      (bits-xor byte (moved y (row % 4)) (row % 4) ∙ ap (bitXor (bitsAt byte (row % 4))) (moved-same y small (row % 4) (omega arith)))
 
-  pub turned-other : (j : ℕ) → (j ≡ row → ⊥) → valueIn turned j ≡ valueIn vals j
+  pub turned-other : (j : ℕ) → (j ≡ row → ⊥) → valueIn (set vals (row / 4) after) j ≡ valueIn vals j
   unfolding valueIn
   turned-other j ne =
       by-cases (ℕ-discrete (j / 4) (row / 4))
-      (λ (e : j / 4 ≡ row / 4). rw (e, getD-set-same vals (row / 4) (bitXor byte (moved y (row % 4))) 0 room)
-      (bits-xor byte (moved y (row % 4)) (j % 4) ∙ (ap (bitXor (bits byte (j % 4))) (moved-other y small (row % 4) (omega arith) (j % 4) (omega arith) (λ q. ne (omega arith))) ∙ xor-zero-r _)))
-      (λ e. ap (λ (b : ℕ). bits b (j % 4)) (getD-set-other vals (row / 4) (j / 4) (bitXor byte (moved y (row % 4))) 0 e))
+      (λ (e : j / 4 ≡ row / 4). rw (e, getD-set-same vals (row / 4) after 0 room)
+      (bits-xor byte (moved y (row % 4)) (j % 4) ∙ (ap (bitXor (bitsAt byte (j % 4))) (moved-other y small (row % 4) (omega arith) (j % 4) (omega arith) (λ q. ne (omega arith))) ∙ xor-zero-r _)))
+      (λ e. ap (λ (b : ℕ). bitsAt b (j % 4)) (getD-set-other vals (row / 4) (j / 4) after 0 e))
 
 -- what turns 1 into x
 pub one-turned : (x : ℕ) → x < 4 → bitXor 1 (bitXor x 1) ≡ x
 one-turned = each (λ x. bitXor 1 (bitXor x 1) ≡ x) refl refl refl refl
 
--- 85 is four times 1
+-- 85 has 1 at each of its four places
 pub all-one : (row : ℕ) → row < 256 → valueIn (replicate 64 85) row ≡ 1
 unfolding valueIn
-all-one row h = rw (getD-replicate {A = ℕ} 64 (row / 4) 85 0 (omega arith)) (each (λ i. bits 85 i ≡ 1) refl refl refl refl (row % 4) (omega arith))
+all-one row h = rw (getD-replicate {A = ℕ} 64 (row / 4) 85 0 (omega arith)) (each (λ i. bitsAt 85 i ≡ 1) refl refl refl refl (row % 4) (omega arith))

@@ -14,9 +14,13 @@ use Rattle.sheet.specs.Table.{evalOf}
 unfoldable pub linksIn : List ℕ → Links
 linksIn s l = cond (ltb l 64) (undigit (getD s l 0)) Unset
 
--- the value of a row, from the table: two bits a row, four rows a byte, the first of them lowest
+-- the two bits of a byte at one of its four places, the lowest at place 0
+abbrev pub bitsAt : ℕ → ℕ → ℕ
+bitsAt byte i = byte / 2 ^ (i * 2) % 4
+
+-- the value of a row, from the table: two bits a row, four rows a byte
 unfoldable pub valueIn : List ℕ → ℕ → ℕ
-valueIn vals row = getD vals (row / 4) 0 / 2 ^ (row % 4 * 2) % 4
+valueIn vals row = bitsAt (getD vals (row / 4) 0) (row % 4)
 
 -- of 256 rows the table holds the values of those below k, and FALSE elsewhere, as an operand that is not below its row reads
 unfoldable pub Evaluated : ℕ → List ℕ → Links → ℕ → List ℕ → Type 0

@@ -88,7 +88,7 @@ pub fn value_in(vals: &Values, row: u8) -> u8
     (vals[(row / 4) as usize] >> (row % 4 * 2)) % 4
 }
 
-// Every row keeps its value but one, which held FALSE, that is 1, and gets x.
+// Puts x in for a row that holds FALSE, that is 1; every other row keeps its value.
 fn put(vals: &mut Values, row: usize, x: u8)
     requires { ⌜ (length (now vals) ≡ 64) × ((row < 256) × ((valueIn (now vals) row ≡ 1) × (x < 4))) ⌝ }
     ensures { λ _. ⌜ (length (now (vals .exit)) ≡ 64) × (((j : ℕ) → (j ≡ row → ⊥) → valueIn (now (vals .exit)) j ≡ valueIn (now (vals .entry)) j) × (valueIn (now (vals .exit)) row ≡ x)) ⌝ }
@@ -123,7 +123,7 @@ fn step(evaluation: u8, cs: &[u8], row: usize, links: &[u8; 64], vals: &Values) 
     value_by(evaluation, cs[at], cs[at + 1], cs[at + 2], links, vals)
 }
 
-// The values of the first k rows; 85 is FALSE in each of a byte's four rows.
+// The values of the first k rows; 85 has FALSE at each of its four places.
 pub fn values(evaluation: u8, cs: &[u8], k: usize, links: &[u8; 64]) -> Values
     requires { ⌜ (k * 4 ≤ length (now cs)) × (k ≤ 256) ⌝ }
     ensures { λ r. ⌜ Evaluated evaluation (now (cs .entry)) (linksIn (now (links .entry))) k r ⌝ }

@@ -24,8 +24,13 @@ element-write-vals c = search needs
 
 returns : tie.Need-returns
 returns c = let a = c .before .args in
-    let p = c .before .pre in
-    (length-set (a .vals .now) _ _ ∙ p .0, (turned-other (a .vals .now) (a .row) _ (omega arith) (xor-lt 2 (a .x) _ (omega arith) (omega arith)), turned-same (a .vals .now) (a .row) _ (omega arith) (xor-lt 2 (a .x) _ (omega arith) (omega arith)) ∙ rw (p .1 .1 .0) (one-turned (a .x) (omega arith))))
+    let p = c .before .pre in (
+      length-set (a .vals .now) _ _ ∙ p .0,
+      (
+        turned-other (a .vals .now) (a .row) _ (omega arith) (xor-lt 2 (a .x) _ (omega arith) (omega arith)),
+        turned-same (a .vals .now) (a .row) _ (omega arith) (xor-lt 2 (a .x) _ (omega arith) (omega arith)) ∙ rw (p .1 .1 .0) (one-turned (a .x) (omega arith)),
+      ),
+    )
 
 pub put-spec : {M : Type 1} → statement M
 put-spec =
