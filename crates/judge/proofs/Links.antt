@@ -27,8 +27,8 @@ use Rattle.reach.specs.Masks.{hasBit, linkBit, maskOf, maskAt}
 use Rattle.reach.proofs.Bits.{bit-or, bit-and, bit-none, trailing-lowest}
 use Rattle.reach.proofs.Links.{mask-reached, mask-width}
 use Rattle.sheet.specs.Table.{Table, rowBy, rowAt, conditionRowAt}
-use Rattle.sheet.specs.Rules.{termOk, sources, narrowPrefix, narrowRow, oneSource, narrow}
-use Rattle.sheet.proofs.Rows.{PrefixOk, RowOk, term-row, row-no-source, row-no-join}
+use Rattle.sheet.specs.Rules.{termOk, sources, fewLinks, oneSource, narrow}
+use Rattle.sheet.proofs.Rows.{PrefixOk, RowOk, term-row, row-no-source, join-row, join-asked}
 use Rattle.sheet.proofs.Accepted.{links-below}
 use Rattle.judge.specs.declared.Notes.{Notes}
 use Rattle.judge.specs.Judge.{AfterConditions, sourceNoted, joinNoted, linksNoted, AfterRows}
@@ -97,29 +97,15 @@ module _ (m n : ℕ) (ts : List ℕ) (twice : ℕ) (few : m ≤ 64) (doubled : (
       place-is (oneSource m n ts) (trailingZeros 64 twice) (omega arith) (λ l a b. single-below l (omega arith) b) h
       (source-rule (trailingZeros 64 twice) (omega arith) ∙ rw (trailing-lowest 64 twice) (lowest-at (λ j. not (hasBit twice j)) 0 64 (rw (← trailing-lowest 64 twice) (omega arith))))
 
--- 8: a JOIN's condition is below k, so its mask is in the table
-module _ (t : Table) (masks : List ℕ) (g : AfterConditions t masks) (j : ℕ) (ok : termOk (t .terms) (t .m) (t .n) (t .k) j ≡ true) where
-  row-wide : eqb (getD (t .terms) (j * 4) 0) 3 ≡ false → narrowRow (t .m) (conditionRowAt (t .conditions)) (rowAt (t .terms) j) ≡ true
-  unfolding rowAt narrowRow narrowPrefix
-  row-wide e = at (rowAt (t .terms) j) refl
-    where
-      at : (N : Row) → rowAt (t .terms) j ≡ N → narrowRow (t .m) (conditionRowAt (t .conditions)) N ≡ true
-      at NIL z = refl
-      at (PREFIX (act a) b) z = refl
-      at (PREFIX (out l v) b) z = refl
-      at (PREFIX (join q) d) z = absurd (row-no-join (getD (t .terms) (j * 4) 0) _ _ _ e q d z)
-      at (BRANCH κ p q) z = refl
+-- a JOIN's condition is below k, so its mask is in the table
+join-below : (t : Table) (j : ℕ) → termOk (t .terms) (t .m) (t .n) (t .k) j ≡ true → eqb (getD (t .terms) (j * 4) 0) 3 ≡ true → getD (t .terms) (j * 4 + 1) 0 < t .k
+unfolding RowOk PrefixOk
+join-below t j ok e = (rw (join-row (t .terms) j (eqb-true _ 3 e)) at (term-row (t .terms) (t .m) (t .n) (t .k) j ok)) .0
 
-  narrow-join : (a b : ℕ) → rowAt (t .terms) j ≡ PREFIX (join a) b → leb (length (listed (hasBit (getD masks a 0)) 0 64)) 8 ≡ narrowRow (t .m) (conditionRowAt (t .conditions)) (rowAt (t .terms) j)
-  unfolding narrowRow narrowPrefix RowOk PrefixOk
-  narrow-join a b e =
-      let o : RowOk (t .m) (t .n) (t .k) j (rowAt (t .terms) j) = term-row (t .terms) (t .m) (t .n) (t .k) j ok in
-      let lower : a < t .k = (rw e at o) .0 in
-      rw (e, filled-at 0 (maskAt (t .conditions)) (t .k) masks a (g .masked) lower, mask-width (t .conditions) (t .m) a (g .few-links) (λ l r. links-below (t .m) (t .k) (t .conditions) (g .sound) a l lower r)) refl
-
-  row-narrow : eqb (getD (t .terms) (j * 4) 0) 3 ≡ true → leb (length (listed (hasBit (getD masks (getD (t .terms) (j * 4 + 1) 0) 0)) 0 64)) 8 ≡ narrowRow (t .m) (conditionRowAt (t .conditions)) (rowAt (t .terms) j)
-  unfolding rowAt rowBy
-  row-narrow e = narrow-join (getD (t .terms) (j * 4 + 1) 0) (getD (t .terms) (j * 4 + 2) 0) (rw (eqb-true (getD (t .terms) (j * 4) 0) 3 e) refl)
+-- 8, by the mask
+mask-few : (t : Table) (masks : List ℕ) → AfterConditions t masks → (q : ℕ) → q < t .k → leb (length (listed (hasBit (getD masks q 0)) 0 64)) 8 ≡ fewLinks (t .m) (t .conditions) q
+unfolding fewLinks
+mask-few t masks g q h = rw (filled-at 0 (maskAt (t .conditions)) (t .k) masks q (g .masked) h, mask-width (t .conditions) (t .m) q (g .few-links) (λ l r. links-below (t .m) (t .k) (t .conditions) (g .sound) q l h r)) refl
 
 -- what is noted once the rows below i are
 pub record NotedBelow (t : Table) (i : ℕ) (s : Notes) : Type 0 where
@@ -141,7 +127,7 @@ module _ (t : Table) (masks : List ℕ) (g : AfterConditions t masks) (i : ℕ) 
   none-linked two = linked-same (t .terms) i (s .linked) (s .twice) (b .linked) (source-not (t .terms) i two)
 
   none-joined : eqb kind 3 ≡ false → Noted (narrow (t .m) (t .n) (t .terms) (t .conditions)) (i + 1) (s .join)
-  none-joined three = noted-more _ i (s .join) (b .joined) low (row-wide t masks g i ok three)
+  none-joined three = noted-more _ i (s .join) (b .joined) low (rw (join-asked (fewLinks (t .m) (t .conditions)) (t .terms) i, three))
 
   source-noted : eqb kind 2 ≡ true → NotedBelow t (i + 1) (sourceNoted s byte)
   unfolding sourceNoted
@@ -153,7 +139,7 @@ module _ (t : Table) (masks : List ℕ) (g : AfterConditions t masks) (i : ℕ) 
   join-noted : eqb kind 2 ≡ false → eqb kind 3 ≡ true → NotedBelow t (i + 1) (joinNoted s (t .n) i (getD masks byte 0))
   unfolding joinNoted
   join-noted two three =
-      let rule = row-narrow t masks g i ok three in
+      let rule : leb (length (listed (hasBit (getD masks byte 0)) 0 64)) 8 ≡ narrow (t .m) (t .n) (t .terms) (t .conditions) .rule i = rw (join-asked (fewLinks (t .m) (t .conditions)) (t .terms) i, three) (mask-few t masks g byte (join-below t i ok three)) in
       cond-cases (λ (s : Notes). NotedBelow t (i + 1) s) _
       (λ e. record {
         linked = none-linked two;

@@ -18,10 +18,11 @@ use Rattle.steps.specs.Rows.{PREFIX, isJoinPrefix, isJoin, conditionOfPrefix, c
 use Rattle.steps.specs.Verdict.{SheetPasses}
 use Rattle.steps.proofs.Rows.{join-of}
 use Rattle.sheet.specs.Table.{Table, rowAt, conditionRowAt, evaluationOf, evalIn}
+use Rattle.sheet.proofs.Rows.{join-row}
 use Rattle.failure.specs.Failure.{linksAt, failsAt, numberAt, linkAt}
 use Rattle.verdict.specs.declared.Verdict.the-variants.{Pass, Fail}
 use Rattle.verdict.specs.Verdict.{failsIn, sound, failing, failAt, verdictOf, Judged}
-use Rattle.verdict.proofs.Joins.{kindAt, secondAt, join-row, sound-other, verdict-fail, verdict-pass}
+use Rattle.verdict.proofs.Joins.{kindAt, secondAt, sound-other, verdict-fail, verdict-pass}
 
 module _ (t : Table) (g : Judged t) where
   -- a JOIN row is sound exactly if its condition does not fail

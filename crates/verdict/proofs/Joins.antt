@@ -11,10 +11,9 @@ use lib.Seq.{getD-set-other}
 use borrow.Author.Tests.{lt-ltb, le-ltb, eq-eqb, ne-eqb, not-true}
 use Rattle.laws.specs.Up.{Filled}
 use Rattle.laws.proofs.Up.{filled-at, getD-constant}
-use Rattle.calculus.specs.Process.{join}
-use Rattle.steps.specs.Rows.{PREFIX, isJoin, conditionOfPrefix, conditionOf}
-use Rattle.sheet.specs.Table.{Table, rowBy, rowAt}
-use Rattle.sheet.proofs.Rows.{row-join}
+use Rattle.steps.specs.Rows.{isJoin, conditionOfPrefix, conditionOf}
+use Rattle.sheet.specs.Table.{Table, rowAt}
+use Rattle.sheet.proofs.Rows.{row-join, join-row}
 use Rattle.reach.specs.Masks.{maskAt}
 use Rattle.failure.specs.declared.Failure.the-variants.{None, At}
 use Rattle.failure.specs.Failure.{numberAt, linkAt, failureOf, Narrow}
@@ -31,10 +30,6 @@ module _ (ts : List ℕ) (j : ℕ) where
   abbrev pub secondAt : ℕ
   secondAt = getD ts (j * 4 + 1) 0
 
-  pub join-row : kindAt ≡ 3 → rowAt ts j ≡ PREFIX (join secondAt) (getD ts (j * 4 + 2) 0)
-  unfolding rowAt rowBy
-  join-row e = rw e refl
-
   pub join-is : kindAt ≡ 3 → isJoin (rowAt ts j) ≡ true
   join-is e = row-join ts j ∙ eq-eqb kindAt 3 e
 
@@ -43,7 +38,7 @@ module _ (ts : List ℕ) (j : ℕ) where
 
   pub join-condition : kindAt ≡ 3 → conditionOf (rowAt ts j) ≡ secondAt
   unfolding conditionOf conditionOfPrefix
-  join-condition e = rw (join-row e) refl
+  join-condition e = rw (join-row ts j e) refl
 
 -- a JOIN row of a judged table, and the table of masks
 module _ (t : Table) (g : Judged t) (masks : List ℕ) (f : Filled 0 (maskAt (t .conditions)) (t .k) masks) (j : ℕ) (h : j < t .n) (is : kindAt (t .terms) j ≡ 3) (row mask : ℕ) (at-row : row ≡ secondAt (t .terms) j) (at-mask : mask ≡ getD masks (secondAt (t .terms) j) 0) where
