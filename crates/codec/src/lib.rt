@@ -124,7 +124,7 @@ fn conditions_in(s: &[u8]) -> &[u8]
     &s[start..end]
 }
 
-// 1 and 3 to 8 of the table of the parts.
+// 1, 3 to 8 and 13 of the table of the parts.
 fn judge_parts(s: &[u8]) -> Refusal
     requires { ⌜ Framed (now s) ⌝ }
     ensures { λ r. ⌜ r ≡ refusalOf (tableIn (now (s .entry))) ⌝ }

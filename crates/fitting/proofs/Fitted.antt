@@ -10,7 +10,7 @@ use Rattle.sheet.specs.declared.Refusal.{Refusal}
 use Rattle.sheet.specs.Table.{Table}
 use Rattle.sheet.specs.Rules.{refuse}
 use Rattle.sheet.proofs.Accepted.{none-refused}
-use Rattle.sheet.proofs.Refusals.{numbered, refused-by}
+use Rattle.sheet.proofs.Refusals.{without, refused-by}
 use Rattle.state.specs.declared.State.{State}
 use Rattle.moves.specs.Steps.{modeOf, marksOf}
 use Rattle.moves.specs.Fits.{modeCheck, marksFit, linksFit, waitsFit, clearFit, fitChecks, Fits}
@@ -40,5 +40,5 @@ module _ (t : Table) (s : State) (r : Refusal) (told : r ≡ checked refuse (ref
 
 module _ {A : Type 0} (answer : ℕ → ℕ → A) (good : A) (m n : ℕ) (ts : List ℕ) (s : State) (r : Refusal) (told : r ≡ checked refuse (refuse 0 0) (stateChecks m n ts s)) where
   pub state-refused : (r .number ≡ 0 → ⊥) → answer (r .number) (r .place) ≡ checked answer good (stateChecks m n ts s)
-  unfolding numbered
+  unfolding without
   state-refused h = rw told (refused-by answer good (stateChecks m n ts s) refl (λ e. h (rw told e)))

@@ -1,4 +1,4 @@
--- What the pass over the term rows has noted of OUT rows and JOIN rows, and checks 7 and 8 from it. Assumes nothing.
+-- What the pass over the term rows has noted of OUT rows and JOIN rows, and checks 7 and 8 from it; 13 is in `Wanted`. Assumes nothing.
 use Prim.Native.Nat.{ℕ, zero, suc, _+_, _*_, _<_, _≤_}
 use mathlib.Core.Path.{_≡_, refl, sym, _∙_, ap}
 use mathlib.Core.Bool.{Bool, true, false, cond, not, _&&_}
@@ -12,26 +12,26 @@ use lib.ListN.{length, getD}
 use borrow.Author.Tests.{eqb-true, ltb-true, ltb-false, le-leb, lt-leb}
 use Rattle.laws.specs.Sums.{count, sum}
 use Rattle.laws.specs.Tests.{or}
-use Rattle.laws.specs.Checks.{placeOf, Holds}
+use Rattle.laws.specs.Checks.{Check, placeOf, Holds}
 use Rattle.laws.specs.Listed.{listed}
 use Rattle.laws.proofs.Sums.{sum-more}
 use Rattle.laws.proofs.Tests.{or-true, or-false, cond-cases}
 use Rattle.laws.proofs.Up.{filled-at}
 use Rattle.laws.proofs.Lowest.{lowest-below, lowest-at}
 use Rattle.laws.proofs.Checks.{place-is, Noted, noted-none, noted-more, noted-before, noted-here, noted-end}
-use Rattle.calculus.specs.Process.{act, out, join}
 use Rattle.calculus.specs.Places.{own}
-use Rattle.steps.specs.Rows.{Row, NIL, PREFIX, BRANCH, isSource}
+use Rattle.steps.specs.Rows.{isSource}
 use Rattle.conditions.specs.Conditions.{link, reached}
 use Rattle.reach.specs.Masks.{hasBit, linkBit, maskOf, maskAt}
 use Rattle.reach.proofs.Bits.{bit-or, bit-and, bit-none, trailing-lowest}
 use Rattle.reach.proofs.Links.{mask-reached, mask-width}
 use Rattle.sheet.specs.Table.{Table, rowBy, rowAt, conditionRowAt}
 use Rattle.sheet.specs.Rules.{termOk, sources, fewLinks, oneSource, narrow}
-use Rattle.sheet.proofs.Rows.{PrefixOk, RowOk, term-row, row-no-source, join-row, join-asked}
+use Rattle.sheet.proofs.Rows.{row-no-source, join-below, join-asked}
 use Rattle.sheet.proofs.Accepted.{links-below}
 use Rattle.judge.specs.declared.Notes.{Notes}
-use Rattle.judge.specs.Judge.{AfterConditions, sourceNoted, joinNoted, linksNoted, AfterRows}
+use Rattle.judge.specs.Judge.{AfterConditions, Sound, sourceNoted, wideNoted, joinNoted, linksNoted, AfterRows}
+use Rattle.judge.proofs.Wanted.{Wanted, wanted-other, wanted-join}
 
 -- 7: one OUT row more, or none
 counted : (c : ℕ) (s : Bool) → (or (leb 1 c) s ≡ leb 1 (c + cond s 1 0)) × (or (leb 2 c) (leb 1 c && s) ≡ leb 2 (c + cond s 1 0))
@@ -97,62 +97,68 @@ module _ (m n : ℕ) (ts : List ℕ) (twice : ℕ) (few : m ≤ 64) (doubled : (
       place-is (oneSource m n ts) (trailingZeros 64 twice) (omega arith) (λ l a b. single-below l (omega arith) b) h
       (source-rule (trailingZeros 64 twice) (omega arith) ∙ rw (trailing-lowest 64 twice) (lowest-at (λ j. not (hasBit twice j)) 0 64 (rw (← trailing-lowest 64 twice) (omega arith))))
 
--- a JOIN's condition is below k, so its mask is in the table
-join-below : (t : Table) (j : ℕ) → termOk (t .terms) (t .m) (t .n) (t .k) j ≡ true → eqb (getD (t .terms) (j * 4) 0) 3 ≡ true → getD (t .terms) (j * 4 + 1) 0 < t .k
-unfolding RowOk PrefixOk
-join-below t j ok e = (rw (join-row (t .terms) j (eqb-true _ 3 e)) at (term-row (t .terms) (t .m) (t .n) (t .k) j ok)) .0
-
 -- 8, by the mask
 mask-few : (t : Table) (masks : List ℕ) → AfterConditions t masks → (q : ℕ) → q < t .k → leb (length (listed (hasBit (getD masks q 0)) 0 64)) 8 ≡ fewLinks (t .m) (t .conditions) q
 unfolding fewLinks
 mask-few t masks g q h = rw (filled-at 0 (maskAt (t .conditions)) (t .k) masks q (g .masked) h, mask-width (t .conditions) (t .m) q (g .few-links) (λ l r. links-below (t .m) (t .k) (t .conditions) (g .sound) q l h r)) refl
 
 -- what is noted once the rows below i are
-pub record NotedBelow (t : Table) (i : ℕ) (s : Notes) : Type 0 where
+pub record NotedBelow (t : Table) (masks : List ℕ) (i : ℕ) (s : Notes) : Type 0 where
   pub linked : Linked (t .terms) i (s .linked) (s .twice)
+  pub wanted : Wanted (t .terms) masks i (s .wanted)
   pub joined : Noted (narrow (t .m) (t .n) (t .terms) (t .conditions)) i (s .join)
 
-pub none-noted : (t : Table) → NotedBelow t 0 (record { linked = 0; twice = 0; join = t .n })
-none-noted t = record { linked = linked-none (t .terms); joined = noted-none (narrow (t .m) (t .n) (t .terms) (t .conditions)) }
+pub none-noted : (t : Table) (masks : List ℕ) → NotedBelow t masks 0 (record { linked = 0; twice = 0; wanted = 0; join = t .n })
+none-noted t masks = record { linked = linked-none (t .terms); wanted = λ j h. absurd (omega arith); joined = noted-none (narrow (t .m) (t .n) (t .terms) (t .conditions)) }
 
-module _ (t : Table) (masks : List ℕ) (g : AfterConditions t masks) (i : ℕ) (low : i < t .n) (ok : termOk (t .terms) (t .m) (t .n) (t .k) i ≡ true) (s : Notes) (b : NotedBelow t i s) where
+module _ (t : Table) (masks : List ℕ) (g : AfterConditions t masks) (i : ℕ) (low : i < t .n) (ok : termOk (t .terms) (t .m) (t .n) (t .k) i ≡ true) (s : Notes) (b : NotedBelow t masks i s) where
   abbrev kind : ℕ
   kind = getD (t .terms) (i * 4) 0
 
   abbrev byte : ℕ
   byte = getD (t .terms) (i * 4 + 1) 0
 
+  abbrev narrows : Check
+  narrows = narrow (t .m) (t .n) (t .terms) (t .conditions)
+
   -- the row is no OUT row, or no JOIN row
   none-linked : eqb kind 2 ≡ false → Linked (t .terms) (i + 1) (s .linked) (s .twice)
   none-linked two = linked-same (t .terms) i (s .linked) (s .twice) (b .linked) (source-not (t .terms) i two)
 
-  none-joined : eqb kind 3 ≡ false → Noted (narrow (t .m) (t .n) (t .terms) (t .conditions)) (i + 1) (s .join)
-  none-joined three = noted-more _ i (s .join) (b .joined) low (rw (join-asked (fewLinks (t .m) (t .conditions)) (t .terms) i, three))
+  none-wanted : eqb kind 3 ≡ false → Wanted (t .terms) masks (i + 1) (s .wanted)
+  none-wanted = wanted-other (t .terms) masks i (s .wanted) (b .wanted)
 
-  source-noted : eqb kind 2 ≡ true → NotedBelow t (i + 1) (sourceNoted s byte)
+  none-joined : eqb kind 3 ≡ false → Noted narrows (i + 1) (s .join)
+  none-joined three = noted-more narrows i (s .join) (b .joined) low (rw (join-asked (fewLinks (t .m) (t .conditions)) (t .terms) i, three))
+
+  source-noted : eqb kind 2 ≡ true → NotedBelow t masks (i + 1) (sourceNoted s byte)
   unfolding sourceNoted
-  source-noted two = record {
-    linked = linked-more (t .terms) i (s .linked) (s .twice) (b .linked) byte (source-is (t .terms) i two);
-    joined = none-joined (rw (eqb-true kind 2 two) refl);
-  }
+  source-noted two =
+      let three : eqb kind 3 ≡ false = rw (eqb-true kind 2 two) refl in
+      record {
+        linked = linked-more (t .terms) i (s .linked) (s .twice) (b .linked) byte (source-is (t .terms) i two);
+        wanted = none-wanted three;
+        joined = none-joined three;
+      }
 
-  join-noted : eqb kind 2 ≡ false → eqb kind 3 ≡ true → NotedBelow t (i + 1) (joinNoted s (t .n) i (getD masks byte 0))
-  unfolding joinNoted
+  join-noted : eqb kind 2 ≡ false → eqb kind 3 ≡ true → NotedBelow t masks (i + 1) (joinNoted s (t .n) i (getD masks byte 0))
+  unfolding joinNoted wideNoted
   join-noted two three =
-      let rule : leb (length (listed (hasBit (getD masks byte 0)) 0 64)) 8 ≡ narrow (t .m) (t .n) (t .terms) (t .conditions) .rule i = rw (join-asked (fewLinks (t .m) (t .conditions)) (t .terms) i, three) (mask-few t masks g byte (join-below t i ok three)) in
-      cond-cases (λ (s : Notes). NotedBelow t (i + 1) s) _
-      (λ e. record {
+      let rule : leb (length (listed (hasBit (getD masks byte 0)) 0 64)) 8 ≡ narrows .rule i = rw (join-asked (fewLinks (t .m) (t .conditions)) (t .terms) i, three) (mask-few t masks g byte (join-below (t .terms) (t .m) (t .n) (t .k) i ok (eqb-true kind 3 three))) in
+      record {
         linked = none-linked two;
-        joined = ⊎-elim (λ k. noted-more _ i (s .join) (b .joined) low (sym rule ∙ k)) (λ k. noted-before _ i (s .join) (b .joined) (ltb-true _ _ k)) (or-true e);
-      })
-      (λ e. record { linked = none-linked two; joined = noted-here _ i (s .join) (b .joined) (ltb-false _ _ (or-false e .1)) low (sym rule ∙ or-false e .0) })
+        wanted = wanted-join (t .terms) masks i (s .wanted) (b .wanted) three;
+        joined = cond-cases (Noted narrows (i + 1)) _
+            (λ e. ⊎-elim (λ k. noted-more narrows i (s .join) (b .joined) low (sym rule ∙ k)) (λ k. noted-before narrows i (s .join) (b .joined) (ltb-true _ _ k)) (or-true e))
+            (λ e. noted-here narrows i (s .join) (b .joined) (ltb-false _ _ (or-false e .1)) low (sym rule ∙ or-false e .0));
+      }
 
-  pub row-noted : NotedBelow t (i + 1) (linksNoted s (t .n) i kind byte masks)
+  pub row-noted : NotedBelow t masks (i + 1) (linksNoted s (t .n) i kind byte masks)
   unfolding linksNoted
   row-noted =
-      cond-cases (λ (s : Notes). NotedBelow t (i + 1) s) _ source-noted
-      (λ two. cond-cases (λ (s : Notes). NotedBelow t (i + 1) s) _ (join-noted two) (λ three. record { linked = none-linked two; joined = none-joined three }))
+      cond-cases (NotedBelow t masks (i + 1)) _ source-noted
+      (λ two. cond-cases (NotedBelow t masks (i + 1)) _ (join-noted two) (λ three. record { linked = none-linked two; wanted = none-wanted three; joined = none-joined three }))
 
-pub all-noted : (t : Table) (s : Notes) → t .m ≤ 64 → NotedBelow t (t .n) s → AfterRows t s
+pub all-noted : (t : Table) (masks : List ℕ) (s : Notes) → AfterConditions t masks → Sound (t .m) (t .n) (t .k) (t .terms) (t .n) → NotedBelow t masks (t .n) s → AfterRows t masks s
 unfolding Linked
-all-noted t s few b = record { few-links = few; doubled = λ l h. b .linked l h .1; joined = noted-end _ (t .n) (s .join) (b .joined) refl }
+all-noted t masks s g sound b = record { conditions = g; sound = sound; linked = λ l h. b .linked l h .0; doubled = λ l h. b .linked l h .1; wanted = b .wanted; joined = noted-end _ (t .n) (s .join) (b .joined) refl }

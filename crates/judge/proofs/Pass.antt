@@ -15,20 +15,20 @@ use Rattle.judge.proofs.Chain.{first, fails, holds, holds-all}
 use Rattle.judge.proofs.Counts.{sound-none, sound-more, sound-holds, once-none, children-more, named-once, not-named-once, tree-holds, tree-fails}
 use Rattle.judge.proofs.Links.{NotedBelow, none-noted, row-noted, all-noted}
 
-pub record Passed (t : Table) (i : ℕ) (named : List ℕ) (s : Notes) : Type 0 where
+pub record Passed (t : Table) (masks : List ℕ) (i : ℕ) (named : List ℕ) (s : Notes) : Type 0 where
   pub sound : Sound (t .m) (t .n) (t .k) (t .terms) i
   pub children : Children (t .terms) i named
   pub once : Once (t .terms) i
-  pub noted : NotedBelow t i s
+  pub noted : NotedBelow t masks i s
 
-pub none-passed : (t : Table) (named : List ℕ) → Children (t .terms) 0 named → Passed t 0 named (record { linked = 0; twice = 0; join = t .n })
-none-passed t named c = record { sound = sound-none (t .m) (t .n) (t .k) (t .terms); children = c; once = once-none (t .terms); noted = none-noted t }
+pub none-passed : (t : Table) (masks named : List ℕ) → Children (t .terms) 0 named → Passed t masks 0 named (record { linked = 0; twice = 0; wanted = 0; join = t .n })
+none-passed t masks named c = record { sound = sound-none (t .m) (t .n) (t .k) (t .terms); children = c; once = once-none (t .terms); noted = none-noted t masks }
 
-module _ (t : Table) (masks : List ℕ) (g : AfterConditions t masks) (i : ℕ) (named : List ℕ) (s : Notes) (p : Passed t i named s) (low : i < t .n) where
+module _ (t : Table) (masks : List ℕ) (g : AfterConditions t masks) (i : ℕ) (named : List ℕ) (s : Notes) (p : Passed t masks i named s) (low : i < t .n) where
   abbrev few : i < 256
   few = omega (arith, g .lent .few-terms)
 
-  pub row-passed : getD named i 0 ≡ 1 → termOk (t .terms) (t .m) (t .n) (t .k) i ≡ true → (named′ : List ℕ) → OneMore named (rowAt (t .terms) i) named′ → Passed t (i + 1) named′ (linksNoted s (t .n) i (getD (t .terms) (i * 4) 0) (getD (t .terms) (i * 4 + 1) 0) masks)
+  pub row-passed : getD named i 0 ≡ 1 → termOk (t .terms) (t .m) (t .n) (t .k) i ≡ true → (named′ : List ℕ) → OneMore named (rowAt (t .terms) i) named′ → Passed t masks (i + 1) named′ (linksNoted s (t .n) i (getD (t .terms) (i * 4) 0) (getD (t .terms) (i * 4 + 1) 0) masks)
   row-passed one ok named′ more = record {
     sound = sound-more (t .m) (t .n) (t .k) (t .terms) i (p .sound) ok;
     children = children-more (t .terms) i named named′ (p .children) more;
@@ -41,9 +41,9 @@ module _ (t : Table) (masks : List ℕ) (g : AfterConditions t masks) (i : ℕ) 
       let d = not-named-once (t .terms) i named few (p .children) other in
       record { lent = g .lent; sound = p .sound; once = p .once; low = d .0; high = low; not-once = d .1 }
 
-module _ (t : Table) (named : List ℕ) (s : Notes) (p : Passed t (t .n) named s) where
-  pub all-passed : t .m ≤ 64 → AfterRows t s
-  all-passed few = all-noted t s few (p .noted)
+module _ (t : Table) (masks named : List ℕ) (s : Notes) (p : Passed t masks (t .n) named s) where
+  pub all-passed : AfterConditions t masks → AfterRows t masks s
+  all-passed g = all-noted t masks s g (p .sound) (p .noted)
 
   -- 5 and 6 hold
   pub rows-hold : first (from7 t) ≡ first (from5 t)

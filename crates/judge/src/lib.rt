@@ -1,14 +1,14 @@
-// The judge of a table, for any numbers and any rows: each condition row and each term row is looked at once.
-// The last eight functions, read from the last, are the order of the checks.
+// The judge of a table, for any numbers and any rows: each condition row and each term row is looked at once, and term rows once more to find the row of refusal 13.
+// The last nine functions, read from the last, are the order of the checks.
 ghost use mathlib.Core.Path.{_≡_};
 ghost use Prim.Native.Nat.{_+_, _*_, _<_, _≤_};
 ghost use lib.ListN.{length, getD};
 ghost use Rattle.laws.specs.Up.{Filled};
 ghost use Rattle.laws.specs.Checks.{placeOf, checked};
 ghost use Rattle.sheet.specs.Table.{tableOf, rowBy};
-ghost use Rattle.sheet.specs.Rules.{sized, conditionRule, conditionOk, childOk, termRule, conditions, terms, narrow, from3, from4, from5, from7, from8, refuse, refusalOf};
+ghost use Rattle.sheet.specs.Rules.{sized, conditionRule, conditionOk, childOk, termRule, conditions, terms, sourced, narrow, from3, from4, from5, from7, from13, from8, refuse, refusalOf};
 ghost use Rattle.reach.specs.Masks.{maskAt};
-ghost use Rattle.judge.specs.Judge.{Lent, AfterConditions, Sound, bumped, Few, OneMore, Children, Misnamed, sourceNoted, joinNoted, linksNoted, AfterRows};
+ghost use Rattle.judge.specs.Judge.{Lent, AfterConditions, Sound, bumped, Few, OneMore, Children, Misnamed, sourceNoted, wideNoted, joinNoted, linksNoted, within, wantsWithin, AfterRows};
 use sheet::Head;
 use sheet::Refusal;
 
@@ -131,10 +131,11 @@ fn note_children(named: &mut [u16; 256], kind: u8, a: u8, b: u8, c: u8)
     }
 }
 
-// What checks 7 and 8 ask of the rows so far: the links that an OUT row sets, those that two set, and the lowest JOIN row whose condition reaches more than 8 links, n where there is none.
+// What checks 7, 13 and 8 ask of the rows so far: the links that an OUT row sets, those that two set, those that a JOIN wants, since its condition reaches them, and the lowest JOIN row whose condition reaches more than 8 links, n where there is none.
 struct Notes {
     linked: u64,
     twice: u64,
+    wanted: u64,
     join: usize,
 }
 
@@ -145,20 +146,29 @@ fn note_source(notes: Notes, link: u8) -> Notes
     Notes {
         linked: notes.linked | bit,
         twice: notes.twice | (notes.linked & bit),
+        wanted: notes.wanted,
         join: notes.join,
     }
+}
+
+// The lowest JOIN row so far that reaches more than 8 links, one row later.
+fn note_wide(join: usize, n: usize, row: usize, mask: u64) -> usize
+    ensures { λ r. ⌜ r ≡ wideNoted join n row mask ⌝ }
+{
+    if (reach::width(mask) <= 8) | (join < n) {
+        return join;
+    }
+    row
 }
 
 fn note_join(notes: Notes, n: usize, row: usize, mask: u64) -> Notes
     ensures { λ r. ⌜ r ≡ joinNoted notes n row mask ⌝ }
 {
-    if (reach::width(mask) <= 8) | (notes.join < n) {
-        return notes;
-    }
     Notes {
         linked: notes.linked,
         twice: notes.twice,
-        join: row,
+        wanted: notes.wanted | mask,
+        join: note_wide(notes.join, n, row, mask),
     }
 }
 
@@ -192,6 +202,45 @@ fn bad_term(m: usize, n: usize, k: usize, ts: &[u8], from: usize) -> usize
     i
 }
 
+fn within(mask: u64, links: u64) -> bool
+    ensures { λ r. ⌜ r ≡ within mask links ⌝ }
+{
+    (mask | links) == links
+}
+
+// Whether the links that a row wants are all among some.
+fn wants_within(kind: u8, a: u8, masks: &[u64; 256], links: u64) -> bool
+    ensures { λ r. ⌜ r ≡ wantsWithin kind a (now (masks .entry)) links ⌝ }
+{
+    match kind {
+        3 => within(reach::mask_of(masks, a), links),
+        _ => true,
+    }
+}
+
+// The lowest JOIN row that wants a link without a source. The rows are looked at again only if there is such a link.
+fn unsourced_join(h: Head, ts: &[u8], cs: &[u8], masks: &[u64; 256], notes: Notes) -> usize
+    requires { ⌜ AfterRows (tableOf h (now ts) (now cs)) (now masks) notes ⌝ }
+    ensures { λ r. ⌜ r ≡ placeOf (sourced (tableOf h (now (ts .entry)) (now (cs .entry)))) ⌝ }
+{
+    let n = h.n;
+    let linked = notes.linked;
+    if within(notes.wanted, linked) {
+        return n;
+    }
+    let mut row = 0;
+    while row < n {
+        let at = row * 4;
+        let kind = ts[at];
+        let a = ts[at + 1];
+        if !wants_within(kind, a, masks, linked) {
+            return row;
+        }
+        row += 1;
+    }
+    row
+}
+
 // Check 8, the last.
 fn judge_joins(h: Head, ts: &[u8], cs: &[u8], join: usize) -> Refusal
     requires { ⌜ join ≡ placeOf (narrow (h .m) (h .n) (now ts) (now cs)) ⌝ }
@@ -210,17 +259,33 @@ fn judge_joins(h: Head, ts: &[u8], cs: &[u8], join: usize) -> Refusal
     }
 }
 
+// Check 13 and on.
+fn judge_wanted(h: Head, ts: &[u8], cs: &[u8], masks: &[u64; 256], notes: Notes) -> Refusal
+    requires { ⌜ AfterRows (tableOf h (now ts) (now cs)) (now masks) notes ⌝ }
+    ensures { λ r. ⌜ r ≡ checked refuse (refuse 0 0) (from13 (tableOf h (now (ts .entry)) (now (cs .entry)))) ⌝ }
+{
+    let end = h.n;
+    let place = unsourced_join(h, ts, cs, masks, notes);
+    if place < end {
+        return Refusal { number: 13, place };
+    }
+    judge_joins(h, ts, cs, notes.join)
+}
+
 // Check 7 and on.
-fn judge_sources(h: Head, ts: &[u8], cs: &[u8], notes: Notes) -> Refusal
-    requires { ⌜ AfterRows (tableOf h (now ts) (now cs)) notes ⌝ }
+fn judge_sources(h: Head, ts: &[u8], cs: &[u8], masks: &[u64; 256], notes: Notes) -> Refusal
+    requires { ⌜ AfterRows (tableOf h (now ts) (now cs)) (now masks) notes ⌝ }
     ensures { λ r. ⌜ r ≡ checked refuse (refuse 0 0) (from7 (tableOf h (now (ts .entry)) (now (cs .entry)))) ⌝ }
 {
     let end = h.m;
-    let place = u64::trailing_zeros(notes.twice) as usize;
-    if place < end {
-        return Refusal { number: 7, place };
+    let link = u64::trailing_zeros(notes.twice) as usize;
+    if link < end {
+        return Refusal {
+            number: 7,
+            place: link,
+        };
     }
-    judge_joins(h, ts, cs, notes.join)
+    judge_wanted(h, ts, cs, masks, notes)
 }
 
 // The first row that is not named exactly once: 5 if a row from it on breaks its rule, else 6.
@@ -248,6 +313,7 @@ fn judge_rows(h: Head, ts: &[u8], cs: &[u8], masks: &[u64; 256], named: &mut [u1
     let mut notes = Notes {
         linked: 0,
         twice: 0,
+        wanted: 0,
         join: n,
     };
     let mut i = 0;
@@ -271,7 +337,7 @@ fn judge_rows(h: Head, ts: &[u8], cs: &[u8], masks: &[u64; 256], named: &mut [u1
         note_children(named, kind, a, b, c);
         i += 1;
     }
-    judge_sources(h, ts, cs, notes)
+    judge_sources(h, ts, cs, masks, notes)
 }
 
 // Check 5 and on. Row 0 counts as named, being the root.
@@ -320,7 +386,7 @@ fn judge_settings(h: Head, ts: &[u8], cs: &[u8]) -> Refusal
     judge_conditions(h, ts, cs)
 }
 
-// The refusal of a table: checks 1 and 3 to 8, in order.
+// The refusal of a table: checks 1 and 3 to 8, in order, with 13 before 8.
 pub fn judge(h: Head, ts: &[u8], cs: &[u8]) -> Refusal
     ensures { λ r. ⌜ r ≡ refusalOf (tableOf h (now (ts .entry)) (now (cs .entry))) ⌝ }
 {

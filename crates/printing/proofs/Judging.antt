@@ -15,7 +15,7 @@ use Rattle.sheet.specs.declared.Refusal.{Refusal}
 use Rattle.sheet.specs.Table.{Table, tableOf}
 use Rattle.sheet.specs.Rules.{refuse}
 use Rattle.sheet.specs.Sheet.{numberAt, headOf, termsOf, conditionsOf, tableIn, sheetChecks}
-use Rattle.sheet.proofs.Refusals.{numbered, refused-by, accepted-by, one-place-fails, one-place-holds}
+use Rattle.sheet.proofs.Refusals.{without, refused-by, accepted-by, one-place-fails, one-place-holds}
 use Rattle.codec.specs.declared.SheetAnswer.{SheetAnswer}
 use Rattle.codec.specs.declared.SheetAnswer.the-variants as sheet
 use Rattle.codec.specs.Answers.{readOf, partOf}
@@ -39,7 +39,7 @@ module _ (t : Table) (mode : ℕ) (a : Started) (told : a ≡ startAnswer t mode
   begun = ap (λ (r : Started). refuse (r .number) (r .place)) told ∙ checked-map (λ (r : Started). refuse (r .number) (r .place)) notStarted (started 0 0 (freshOf mode)) (startChecks t mode)
 
   pub run-refused : (rows : List ℕ) → (a .number ≡ 0 → ⊥) → refusedLine (a .number) (a .place) ≡ checked refusedLine (runLines t mode rows) (startChecks t mode)
-  unfolding numbered
+  unfolding without
   run-refused rows h = ap (λ (r : Refusal). refusedLine (r .number) (r .place)) begun ∙ refused-by refusedLine (runLines t mode rows) (startChecks t mode) refl (λ e. h (ap (λ (r : Refusal). r .number) begun ∙ e))
 
   number-is : a .number ≡ 0 → startAnswer t mode .number ≡ 0
@@ -52,7 +52,7 @@ module _ (t : Table) (mode : ℕ) (a : Started) (told : a ≡ startAnswer t mode
   run-begins e = let (b, m) = start-answered t mode .0 (number-is e) in subst (Accepted t) (sym (fresh e)) (fresh-state t b mode m)
 
   pub run-goes : (rows : List ℕ) (v : VerdictAnswer) → v ≡ verdictAnswer t → a .number ≡ 0 → verdictLine v ++ stepLines t (a .state) rows ≡ checked refusedLine (runLines t mode rows) (startChecks t mode)
-  unfolding numbered runLines
+  unfolding without runLines
   run-goes rows v d e = rw (d, fresh e) (accepted-by refusedLine (runLines t mode rows) (startChecks t mode) refl (ap (λ (r : Refusal). r .number) (sym begun) ∙ e))
 
 past : {A : Type 0} (answer : ℕ → ℕ → A) (good : A) (c : Check) (cs : List Check) → Holds c → checked answer good cs ≡ checked answer good (c ∷ cs)
@@ -83,11 +83,11 @@ module _ (s : List ℕ) (mode : ℕ) (rows : List ℕ) (a : SheetAnswer) (told :
   refused n p e = ap refusalIn (sym e ∙ told) ∙ checked-map refusalIn sheet.Refused (sheet.Sheet (headOf s)) (sheetChecks s)
 
   numbered-not : (n p : ℕ) → a ≡ sheet.Refused n p → n ≡ 0 → ⊥
-  unfolding readOf numbered
+  unfolding readOf without
   numbered-not n p e z = headed (headOf s) n p (accepted-by sheet.Refused (sheet.Sheet (headOf s)) (sheetChecks s) refl (ap (λ (r : Refusal). r .number) (sym (refused n p e)) ∙ z) ∙ (sym told ∙ e))
 
   pub sheet-refused : (n p : ℕ) → a ≡ sheet.Refused n p → refusedLine n p ≡ sheetLines mode s rows
-  unfolding sheetLines numbered
+  unfolding sheetLines without
   sheet-refused n p e =
       ap (λ (r : Refusal). refusedLine (r .number) (r .place)) (refused n p e) ∙ (refused-by refusedLine (checked refusedLine (runLines (tableIn s) mode rows) (modeCheck mode ∷ [])) (sheetChecks s) refl (λ z. numbered-not n p e (ap (λ (r : Refusal). r .number) (refused n p e) ∙ z)) ∙ sym (checked-append refusedLine (runLines (tableIn s) mode rows) (sheetChecks s) (modeCheck mode ∷ [])))
 

@@ -183,16 +183,16 @@ module _ {M : Type 1} (𝓤 : URA M) (H : Heap 𝓤) (A : Atoms 𝓤) (at-mem : 
   step-in-place-answers z r =
       fact-mono 𝓤 _ _ (λ (told, left, _). subst (Answered {A = StepKind × State} _ _ (rowChecks its-table was asked)) (λ i. (sym told i, sym left i)) (map-answered (λ (x : Stepped). (x .answer, x .state)) (step-answered its-table was asked)))
 
--- "The checks run in the order of the numbers; a call skips those that do not concern it."
+-- "The checks run in the order of the numbers; a call skips those that do not concern it." 13 of document 02, request 3, "stands after 7 and before 8".
 abbrev numbers : List Check → List ℕ
 numbers = map (λ (c : Check). c .number)
 
 pub in-order :
-    ((s : List ℕ) → numbers (readChecks s) ≡ 1 ∷ 2 ∷ 3 ∷ 4 ∷ 5 ∷ 6 ∷ 7 ∷ 8 ∷ [])
-    × ((t : Table) → numbers (tableChecks t) ≡ 1 ∷ 3 ∷ 4 ∷ 5 ∷ 6 ∷ 7 ∷ 8 ∷ [])
-    × ((h : Head) (ts cs : List ℕ) (lent : ℕ) → numbers (writeChecks h ts cs lent) ≡ 1 ∷ 3 ∷ 4 ∷ 5 ∷ 6 ∷ 7 ∷ 8 ∷ 12 ∷ [])
-    × ((t : Table) (mode : ℕ) → numbers (startChecks t mode) ≡ 1 ∷ 3 ∷ 4 ∷ 5 ∷ 6 ∷ 7 ∷ 8 ∷ 9 ∷ [])
-    × ((t : Table) (s : State) (lent : ℕ) → numbers (listChecks t s lent) ≡ 1 ∷ 3 ∷ 4 ∷ 5 ∷ 6 ∷ 7 ∷ 8 ∷ 9 ∷ 10 ∷ 10 ∷ 10 ∷ 10 ∷ 12 ∷ [])
-    × ((t : Table) (s : State) (lent : ℕ) → numbers (standingChecks t s lent) ≡ 1 ∷ 3 ∷ 4 ∷ 5 ∷ 6 ∷ 7 ∷ 8 ∷ 9 ∷ 10 ∷ 10 ∷ 10 ∷ 10 ∷ 12 ∷ [])
-    × ((t : Table) (s : State) (row : ℕ) → numbers (rowChecks t s row) ≡ 1 ∷ 3 ∷ 4 ∷ 5 ∷ 6 ∷ 7 ∷ 8 ∷ 9 ∷ 10 ∷ 10 ∷ 10 ∷ 10 ∷ 11 ∷ [])
+    ((s : List ℕ) → numbers (readChecks s) ≡ 1 ∷ 2 ∷ 3 ∷ 4 ∷ 5 ∷ 6 ∷ 7 ∷ 13 ∷ 8 ∷ [])
+    × ((t : Table) → numbers (tableChecks t) ≡ 1 ∷ 3 ∷ 4 ∷ 5 ∷ 6 ∷ 7 ∷ 13 ∷ 8 ∷ [])
+    × ((h : Head) (ts cs : List ℕ) (lent : ℕ) → numbers (writeChecks h ts cs lent) ≡ 1 ∷ 3 ∷ 4 ∷ 5 ∷ 6 ∷ 7 ∷ 13 ∷ 8 ∷ 12 ∷ [])
+    × ((t : Table) (mode : ℕ) → numbers (startChecks t mode) ≡ 1 ∷ 3 ∷ 4 ∷ 5 ∷ 6 ∷ 7 ∷ 13 ∷ 8 ∷ 9 ∷ [])
+    × ((t : Table) (s : State) (lent : ℕ) → numbers (listChecks t s lent) ≡ 1 ∷ 3 ∷ 4 ∷ 5 ∷ 6 ∷ 7 ∷ 13 ∷ 8 ∷ 9 ∷ 10 ∷ 10 ∷ 10 ∷ 10 ∷ 12 ∷ [])
+    × ((t : Table) (s : State) (lent : ℕ) → numbers (standingChecks t s lent) ≡ 1 ∷ 3 ∷ 4 ∷ 5 ∷ 6 ∷ 7 ∷ 13 ∷ 8 ∷ 9 ∷ 10 ∷ 10 ∷ 10 ∷ 10 ∷ 12 ∷ [])
+    × ((t : Table) (s : State) (row : ℕ) → numbers (rowChecks t s row) ≡ 1 ∷ 3 ∷ 4 ∷ 5 ∷ 6 ∷ 7 ∷ 13 ∷ 8 ∷ 9 ∷ 10 ∷ 10 ∷ 10 ∷ 10 ∷ 11 ∷ [])
 in-order = (λ s. refl, λ t. refl, λ h ts cs lent. refl, λ t mode. refl, λ t s lent. refl, λ t s lent. refl, λ t s row. refl)

@@ -2,6 +2,7 @@ pub mod Demand1
 pub mod Demand2
 pub mod Demand3
 pub mod Standing
+pub mod Sources
 pub mod Cases
 -- what they rest on
 pub mod Refused

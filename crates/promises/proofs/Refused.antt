@@ -1,46 +1,47 @@
 -- The first check that fails decides every answer. Assumes nothing.
 use Prim.Native.Nat.{ℕ, _+_, _-_, _*_, _/_, _<_, _≤_}
-use mathlib.Core.Path.{_≡_, refl, sym, _∙_, ap, subst}
-use mathlib.Core.Bool.{true, cond}
-use mathlib.Core.List.{List, [], _∷_}
-use mathlib.Core.Logic.{_⊎_, inl, inr, ⊎-elim, by-cases}
+use mathlib.Core.Path.{_≡_, refl, sym, _∙_, ap, ap₂, subst}
+use mathlib.Core.Bool.{true, false, cond, not}
+use mathlib.Core.List.{List, [], _∷_, _++_, append-nil}
+use mathlib.Core.Logic.{_⊎_, inl, inr, ⊎-elim, by-cases, _↔_}
 use native.Mathlib.Omega.{arith}
 use native.Mathlib.Decide.{decLt}
-use lib.Dec.{ltb}
+use lib.Dec.{eqb, ltb}
 use lib.ListN.{length, take, drop, length-drop}
 use lib.Seq.{length-take-le}
-use borrow.Author.Tests.{le-leb}
+use borrow.Author.Tests.{le-leb, eqb-false, not-true}
 use Rattle.laws.specs.Lowest.{lowest}
 use Rattle.laws.specs.Checks.{Check, placeOf, Holds, checked, AllHold}
+use Rattle.laws.proofs.Tests.{and-l, and-r}
 use Rattle.laws.proofs.Lowest.{lowest-from, lowest-below, lowest-at}
 use Rattle.laws.proofs.Checks.{checked-fails, checked-holds, checked-append, place-is, place-holds, holds-end, all-hold}
+use Rattle.sheet.specs.declared.Refusal.{Refusal}
 use Rattle.sheet.specs.Table.{Table}
-use Rattle.sheet.specs.Rules.{sized, sizes, from3}
+use Rattle.sheet.specs.Rules.{sized, sizes, from3, refuse}
 use Rattle.sheet.specs.Sheet.{numberAt, headOf, termsOf, conditionsOf, sheetSize, contents, tableIn, sheetChecks}
+use Rattle.sheet.proofs.Refusals.{without}
 use Rattle.codec.proofs.Reading.{bodies}
 use Rattle.state.specs.declared.State.{State}
 use Rattle.state.specs.declared.StepKind.the-variants.{Refused}
 use Rattle.moves.specs.Steps.{kindAt}
 use Rattle.sheet_engine.specs.Answers.{kindAnswer, notTaken, stepAnswer}
-use Rattle.sheet_engine.specs.Values.{rowChecks, wasTaken}
+use Rattle.sheet_engine.specs.Values.{rowChecks, wasTaken, Answers}
 use Rattle.sheet_engine.proofs.Steps.{kind-checked, step-checked}
 use Rattle.promises.specs.Refused.{FirstFails, Answered, readChecks}
 
+-- the place of a check that fails
+pub place-fails : (c : Check) (p : ℕ) → p ≡ placeOf c → p < c .upto → (c .from ≤ p) × (c .rule p ≡ false) × ((q : ℕ) → c .from ≤ q → q < p → c .rule q ≡ true)
+unfolding placeOf
+place-fails c p here h =
+    let low : c .from ≤ lowest (c .rule) (c .from) (c .upto - c .from) = lowest-from (c .rule) (c .from) (c .upto - c .from) in
+    rw here (low, lowest-at (c .rule) (c .from) (c .upto - c .from) (omega arith), λ q from below. lowest-below (c .rule) (c .from) (c .upto - c .from) q from below)
+
 -- a check that fails does so at its place, the lowest
 check-fails : (c : Check) (cs : List Check) → placeOf c < c .upto → FirstFails (c ∷ cs) (c .number) (placeOf c)
-unfolding placeOf AllHold
-check-fails c cs h = record {
-  before = [];
-  check = c;
-  after = cs;
-  order = refl;
-  before-hold = tt;
-  its-number = refl;
-  from = lowest-from (c .rule) (c .from) (c .upto - c .from);
-  inside = h;
-  breaks = let l = lowest-from (c .rule) (c .from) (c .upto - c .from) in lowest-at (c .rule) (c .from) (c .upto - c .from) (omega arith);
-  lowest = λ p low high. lowest-below (c .rule) (c .from) (c .upto - c .from) p low high;
-}
+unfolding AllHold
+check-fails c cs h =
+    let (from, breaks, lowest) = place-fails c (placeOf c) refl h in
+    record { before = []; check = c; after = cs; order = refl; before-hold = tt; its-number = refl; from = from; inside = h; breaks = breaks; lowest = lowest }
 
 -- ... and so do those after checks that hold
 later-fails : (c : Check) (cs : List Check) → AllHold (c ∷ []) → {n p : ℕ} → FirstFails cs n p → FirstFails (c ∷ cs) n p
@@ -74,6 +75,38 @@ first-fails {A} refused good {cs} {n} {p} f =
     ∙ (all-hold refused (checked refused good (f .check ∷ f .after)) (f .before) (f .before-hold)
     ∙ (sym (checked-fails refused good (f .check) (f .after) p (place-is (f .check) p (f .from) (f .lowest) (f .inside) (f .breaks)) (f .inside))
     ∙ ap (λ (x : ℕ). refused x p) (f .its-number))))
+
+-- checks of other numbers than the refusal's hold, and those after them give it
+passed-over : (n p : ℕ) (cs ds : List Check) → without n cs ≡ true → checked refuse (refuse 0 0) (cs ++ ds) ≡ refuse n p → AllHold cs × (checked refuse (refuse 0 0) ds ≡ refuse n p)
+unfolding without AllHold
+passed-over n p [] ds w e = (tt, e)
+passed-over n p (c ∷ cs) ds w e =
+    by-cases (decLt (placeOf c) (c .upto))
+    (λ h. absurd (eqb-false (c .number) n (not-true _ (and-l _ _ w)) (ap (λ (r : Refusal). r .number) (checked-fails refuse (refuse 0 0) c (cs ++ ds) (placeOf c) refl h ∙ e))))
+    (λ h.
+    let g : c .upto ≤ placeOf c = omega arith in
+    let (held, later) = passed-over n p cs ds (and-r (not (eqb (c .number) n)) _ w) (checked-holds refuse (refuse 0 0) c (cs ++ ds) (placeOf c) refl g ∙ e) in
+    ((place-holds c (placeOf c) refl g, held), later))
+
+-- ... so where one check alone has its number, those before it hold, and it fails there
+pub refused-there : (before : List Check) (c : Check) (after : List Check) (p : ℕ) → (c .number ≡ 0 → ⊥) → without (c .number) before ≡ true → without (c .number) after ≡ true → checked refuse (refuse 0 0) (before ++ (c ∷ after)) ≡ refuse (c .number) p → AllHold before × (p ≡ placeOf c) × (p < c .upto)
+unfolding checked
+refused-there before c after p some b a e =
+    let (held, here) = passed-over (c .number) p before (c ∷ after) b e in
+    by-cases (decLt (placeOf c) (c .upto))
+    (λ h. let place : placeOf c ≡ p = ap (λ (r : Refusal). r .place) (checked-fails refuse (refuse 0 0) c after (placeOf c) refl h ∙ here) in (held, sym place, rw place at h))
+    (λ h. let none = passed-over (c .number) p after [] a (rw append-nil (checked-holds refuse (refuse 0 0) c after (placeOf c) refl (omega arith) ∙ here)) in absurd (some (sym (ap (λ (r : Refusal). r .number) (none .1)))))
+
+-- an answer's number and place are those of a refusal exactly if its checks give that
+pub values-told : {A : Type 0} (number place : A → ℕ) {refused : ℕ → ℕ → A} {good : A} {cs : List Check} {a : A} → Answers number refused good cs a → ((n p : ℕ) → (number (refused n p) ≡ n) × (place (refused n p) ≡ p)) → (n p : ℕ) → (n ≡ 0 → ⊥) → ((number a ≡ n) × (place a ≡ p)) ↔ (checked refuse (refuse 0 0) cs ≡ refuse n p)
+values-told number place {refused} {good} {cs} {a} told is n p some = (
+  λ (e, f).
+      let r = told .refusal (λ z. some (sym e ∙ z)) in
+      ap₂ refuse (sym (is _ _ .0) ∙ (sym (ap number r) ∙ e)) (sym (is _ _ .1) ∙ (sym (ap place r) ∙ f)),
+  λ e.
+      let r = told .refusal (λ z. some (sym (ap (λ (r : Refusal). r .number) (sym (all-hold refuse (refuse 0 0) cs (told .accepts .0 z)) ∙ e)))) in
+      (ap number r ∙ (is _ _ .0 ∙ ap (λ (r : Refusal). r .number) e), ap place r ∙ (is _ _ .1 ∙ ap (λ (r : Refusal). r .place) e)),
+)
 
 -- AN ANSWER BY CHECKS is the good one or the refusal of the first that fails
 pub answered : {A : Type 0} (refused : ℕ → ℕ → A) (good : A) (cs : List Check) → Answered refused good cs (checked refused good cs)

@@ -1,4 +1,4 @@
-// Sheets and tables at each limit, with refusals 1 to 8 and 12: what `codec` and `judge` answer when they read, judge and write.
+// Sheets and tables at each limit, with refusals 1 to 8, 12 and 13: what `codec` and `judge` answer when they read, judge and write.
 use codec::SheetAnswer;
 use codec::SizeAnswer;
 use libc::STDOUT_FILENO;
@@ -272,6 +272,44 @@ fn sources() {
     two_sources(b"link 63 with two sources", 63);
 }
 
+// 13: an OUT row, a JOIN on LINK 0, LINK 1 or the OR of both, and an OUT row behind it
+fn waits(name: &[u8], before: u8, condition: u8, behind: u8) {
+    let mut ts = [0; 1024];
+    let mut cs = [0; 1024];
+    put_row(&mut ts, 0, 2, before, 1, 1);
+    put_row(&mut ts, 1, 3, condition, 2, 0);
+    put_row(&mut ts, 2, 2, behind, 1, 3);
+    put_links(&mut cs, 2);
+    judge_rows(name, head(3, 4, 3), &ts, &cs);
+}
+
+// ... and a JOIN that reaches links 0 to `last`, after an OUT row for each but the last
+fn join_short(name: &[u8], last: u8) {
+    let mut ts = [0; 1024];
+    let mut cs = [0; 1024];
+    if last < 64 {
+        put_outs(&mut ts, 0, last);
+        put_links(&mut cs, last + 1);
+        put_row(&mut ts, last, 3, 2 * last, last + 1, 0);
+        let l = last as usize;
+        judge_rows(name, head(l + 1, l + 2, 2 * l + 1), &ts, &cs);
+    }
+}
+
+fn wanted() {
+    waits(b"a JOIN on link 1, which no row sets", 0, 1, 2);
+    waits(b"a JOIN on links 0 and 1, of which no row sets 1", 0, 2, 2);
+    waits(b"a JOIN on link 1, which a row behind it sets", 0, 1, 1);
+    waits(b"a JOIN on link 0, and link 1 wanted by none", 0, 0, 2);
+    waits(
+        b"a JOIN on link 1, which no row sets, and two set 0",
+        0,
+        1,
+        0,
+    );
+    join_short(b"a JOIN after 8 links, which reaches 9", 8);
+}
+
 // 8: links 0 to `last`, an OUT row for each, and a JOIN that reaches them all, after or before the OUT rows
 fn join_last(name: &[u8], last: u8) {
     let mut ts = [0; 1024];
@@ -377,6 +415,7 @@ fn main() {
     terms();
     trees();
     sources();
+    wanted();
     links();
     writing();
 }

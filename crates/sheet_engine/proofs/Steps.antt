@@ -22,7 +22,7 @@ use Rattle.sheet.specs.Rules.{tableChecks, refuse, refusalOf}
 use Rattle.sheet.specs.Sheet.{room}
 use Rattle.sheet.specs.Accepted.{WellFormed}
 use Rattle.sheet.proofs.Accepted.{meets, well-formed}
-use Rattle.sheet.proofs.Refusals.{numbered, refused-by, accepted-by, table-refused-first, table-accepted-first, one-place-fails, one-place-holds}
+use Rattle.sheet.proofs.Refusals.{without, refused-by, accepted-by, table-refused-first, table-accepted-first, one-place-fails, one-place-holds}
 use Rattle.codec.specs.declared.SizeAnswer.{SizeAnswer}
 use Rattle.codec.specs.declared.SizeAnswer.the-variants as size
 use Rattle.state.specs.declared.State.{State}
@@ -42,8 +42,8 @@ use Rattle.sheet_engine.specs.Answers.{callChecks, listAnswer, listBuffe
 use Rattle.sheet_engine.specs.Values.{rowCheck, rowChecks, wasTaken}
 
 -- where none of two lists of checks fails, none of the first does
-first-accepted : (cs ds : List Check) → numbered cs ≡ true → checked refuse (refuse 0 0) (cs ++ ds) .number ≡ 0 → checked refuse (refuse 0 0) cs .number ≡ 0
-unfolding checked numbered
+first-accepted : (cs ds : List Check) → without 0 cs ≡ true → checked refuse (refuse 0 0) (cs ++ ds) .number ≡ 0 → checked refuse (refuse 0 0) cs .number ≡ 0
+unfolding checked without
 first-accepted [] ds n e = refl
 first-accepted (c ∷ cs) ds n e = at (ltb (placeOf c) (c .upto)) (first-accepted cs ds (and-r (not (eqb (c .number) 0)) _ n)) e
   where
@@ -62,11 +62,11 @@ module _ (t : Table) (s : State) (r : Refusal) (told : r ≡ refusalOf t) where
 -- what the call's refusal gives
 module _ (t : Table) (s : State) (r : Refusal) (told : r ≡ checked refuse (refuse 0 0) (callChecks t s)) where
   pub refused-call : {A : Type 0} (answer : ℕ → ℕ → A) (good : A) → (r .number ≡ 0 → ⊥) → answer (r .number) (r .place) ≡ checked answer good (callChecks t s)
-  unfolding numbered
+  unfolding without
   refused-call answer good h = rw told (refused-by answer good (callChecks t s) refl (λ e. h (rw told e)))
 
   pub accepted-call : {A : Type 0} (answer : ℕ → ℕ → A) (good : A) → r .number ≡ 0 → good ≡ checked answer good (callChecks t s)
-  unfolding numbered
+  unfolding without
   accepted-call answer good e = accepted-by answer good (callChecks t s) refl (rw told at e)
 
   pub kind-refused : (row : ℕ) → (r .number ≡ 0 → ⊥) → kind.Refused (r .number) (r .place) ≡ kindAnswer t s row
@@ -152,7 +152,7 @@ module _ (t : Table) (s : State) (r : Refusal) (told : r ≡ checked refuse (ref
 
 -- an accepted call's table is well formed
 pub call-formed : (t : Table) (s : State) (r : Refusal) → r ≡ checked refuse (refuse 0 0) (callChecks t s) → r .number ≡ 0 → WellFormed t
-unfolding refusalOf numbered
+unfolding refusalOf without
 call-formed t s r told e = well-formed t (meets t (first-accepted (tableChecks t) (modeCheck (s .mode) ∷ fitChecks t s) refl (ap (λ (r : Refusal). r .number) (sym told) ∙ e)))
 
 -- where no step was taken, the state is the one that was handed in

@@ -25,7 +25,7 @@ use Rattle.sheet.specs.declared.Head.{Head}
 use Rattle.sheet.specs.Table.{Table, rowBy, rowAt, evalIn}
 use Rattle.sheet.specs.Rules.{termRule, termOk, refuse, tableChecks}
 use Rattle.sheet.specs.Sheet.{sizeOf, headOf, sheetChecks}
-use Rattle.sheet.proofs.Refusals.{numbered, refused-by, accepted-by, one-place-fails, one-place-holds}
+use Rattle.sheet.proofs.Refusals.{without, refused-by, accepted-by, one-place-fails, one-place-holds}
 use Rattle.codec.specs.declared.SheetAnswer.the-variants as sheet
 use Rattle.codec.specs.declared.SizeAnswer.the-variants as size
 use Rattle.codec.specs.Answers.{readOf, writeChecks, writeOf}
@@ -44,10 +44,10 @@ use Rattle.sheet_engine.proofs.Steps.{no-kind}
 use Rattle.sheet_engine.proofs.Stands.{stands-rows}
 
 -- every check holds where none gives its number
-all-held : (cs : List Check) → numbered cs ≡ true → checked refuse (refuse 0 0) cs .number ≡ 0 → AllHold cs
+all-held : (cs : List Check) → without 0 cs ≡ true → checked refuse (refuse 0 0) cs .number ≡ 0 → AllHold cs
 all-held cs n e = unrefused (λ n p. false) true cs (λ _ _ z. true≢false (accepted-by (λ n p. false) true cs n e ∙ z))
 
-module _ {A : Type 0} (number : A → ℕ) (refused : ℕ → ℕ → A) (good : A) (told : (n p : ℕ) → number (refused n p) ≡ n) (zero : number good ≡ 0) (cs : List Check) (some-number : numbered cs ≡ true) where
+module _ {A : Type 0} (number : A → ℕ) (refused : ℕ → ℕ → A) (good : A) (told : (n p : ℕ) → number (refused n p) ≡ n) (zero : number good ≡ 0) (cs : List Check) (some-number : without 0 cs ≡ true) where
   abbrev first : ℕ
   first = checked refuse (refuse 0 0) cs .number
 
@@ -65,23 +65,23 @@ module _ {A : Type 0} (number : A → ℕ) (refused : ℕ → ℕ → A) (good :
 
 -- reading, writing, listing
 pub read-answers : (s : List ℕ) → Answers (λ (v : SheetValues). v .refusal) (λ n p. sheetValues (sheet.Refused n p)) (sheetValues (sheet.Sheet (headOf s))) (sheetChecks s) (sheetValues (readOf s))
-unfolding readOf numbered
+unfolding readOf without
 read-answers s = rw (checked-map sheetValues sheet.Refused (sheet.Sheet (headOf s)) (sheetChecks s)) (answers _ _ _ (λ n p. refl) refl (sheetChecks s) refl)
 
 pub write-answers : (h : Head) (ts cs : List ℕ) (lent : ℕ) → Answers (λ (v : SizeValues). v .refusal) (λ n p. sizeValues (size.Refused n p)) (sizeValues (size.Size (sizeOf h))) (writeChecks h ts cs lent) (sizeValues (writeOf h ts cs lent))
-unfolding writeOf numbered
+unfolding writeOf without
 write-answers h ts cs lent = rw (checked-map sizeValues size.Refused (size.Size (sizeOf h)) (writeChecks h ts cs lent)) (answers _ _ _ (λ n p. refl) refl (writeChecks h ts cs lent) refl)
 
 pub verdict-answers : (t : Table) → Answers (λ (v : VerdictValues). v .refusal) (λ n p. verdictValues (Refused n p)) (verdictValues (given (verdictOf t))) (tableChecks t) (verdictValues (verdictAnswer t))
-unfolding verdictAnswer numbered
+unfolding verdictAnswer without
 verdict-answers t = rw (checked-map verdictValues Refused (given (verdictOf t)) (tableChecks t)) (answers _ _ _ (λ n p. refl) (given-unrefused (verdictOf t) .0) (tableChecks t) refl)
 
 pub standing-answers : (t : Table) (s : State) (lent : ℕ) → Answers (λ (v : StandingValues). v .refusal) (λ n p. standingValues (standing.Refused n p)) (standingValues (standingOf t s)) (standingChecks t s lent) (standingValues (standingAnswer t s lent))
-unfolding standingAnswer numbered
+unfolding standingAnswer without
 standing-answers t s lent = rw (checked-map standingValues standing.Refused (standingOf t s) (standingChecks t s lent)) (answers _ _ _ (λ n p. refl) (stands-rows t s .0) (standingChecks t s lent) refl)
 
 pub list-answers : (t : Table) (s : State) (lent : ℕ) → Answers (λ (v : SizeValues). v .refusal) (λ n p. sizeValues (size.Refused n p)) (sizeValues (size.Size (length (listedOf t s)))) (listChecks t s lent) (sizeValues (listAnswer t s lent))
-unfolding listAnswer numbered
+unfolding listAnswer without
 list-answers t s lent = rw (checked-map sizeValues size.Refused (size.Size (length (listedOf t s))) (listChecks t s lent)) (answers _ _ _ (λ n p. refl) refl (listChecks t s lent) refl)
 
 -- a step: its values are the bytes of its row
@@ -149,7 +149,7 @@ module _ (t : Table) (s : State) (row : ℕ) where
       (cases (hasStep t s row))
 
   kind-told : stepValues (kindAnswer t s row) ≡ checked stepRefused (shown t s row) (rowChecks t s row)
-  unfolding kindAnswer numbered
+  unfolding kindAnswer without
   kind-told =
       checked-map stepValues kind.Refused (kindAt t s row) (callChecks t s)
       ∙ by-cases (ℕ-discrete (checked refuse (refuse 0 0) (callChecks t s) .number) 0)
@@ -158,7 +158,7 @@ module _ (t : Table) (s : State) (row : ℕ) where
       ∙ sym (checked-append stepRefused (shown t s row) (callChecks t s) (rowCheck t s row ∷ []))
 
   pub kind-answers : Answers (λ (v : StepValues). v .refusal) stepRefused (shown t s row) (rowChecks t s row) (stepValues (kindAnswer t s row))
-  unfolding numbered
+  unfolding without
   kind-answers = rw kind-told (answers (λ (v : StepValues). v .refusal) stepRefused (shown t s row) (λ n p. refl) (shown-unrefused _ _ _ _) (rowChecks t s row) refl)
 
   -- taking a step answers as asking for its kind

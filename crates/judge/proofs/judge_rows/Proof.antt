@@ -11,13 +11,13 @@ use Rattle.judge.proofs.judge_rows.Statement.{statement}
 use Rattle.judge.proofs.judge_rows.Tie as tie
 
 abbrev Inv-loop : tie.InvT-loop
-Inv-loop h ts cs masks named₀ n notes₀ i₀ named notes i = (i ≤ h .n) × Passed (tableOf h ts cs) i named notes
+Inv-loop h ts cs masks named₀ n notes₀ i₀ named notes i = (i ≤ h .n) × Passed (tableOf h ts cs) masks i named notes
 
 abbrev μ-loop : tie.MeasureT-loop
 μ-loop h ts cs masks named₀ n notes₀ i₀ named notes i = h .n - i
 
 loop-holds : tie.Need-loop-holds Inv-loop μ-loop
-loop-holds c = (omega arith, none-passed (tableOf (c .before .before .args .h) (c .before .before .args .ts .now) (c .before .before .args .cs .now)) _ (c .before .before .pre .1))
+loop-holds c = (omega arith, none-passed (tableOf (c .before .before .args .h) (c .before .before .args .ts .now) (c .before .before .args .cs .now)) _ _ (c .before .before .pre .1))
 
 mul-times : tie.Need-mul-times Inv-loop μ-loop
 mul-times c = omega arith
@@ -98,13 +98,13 @@ judge-sources-requires : tie.Need-judge-sources-requires Inv-loop μ-loop
 judge-sources-requires c κs = let l = c .before .loop in
     let a = c .before .before .before .before .args in
     let e : l .i ≡ a .h .n = omega arith in
-    all-passed (tableOf (a .h) (a .ts .now) (a .cs .now)) (l .named) (l .notes) (rw e at (l .inv .1)) (c .before .before .before .before .pre .0 .few-links)
+    all-passed (tableOf (a .h) (a .ts .now) (a .cs .now)) _ (l .named) (l .notes) (rw e at (l .inv .1)) (c .before .before .before .before .pre .0)
 
 returns-3 : tie.Need-returns-3 Inv-loop μ-loop
 returns-3 c = let l = c .before .before .loop in
     let a = c .before .before .before .before .before .args in
     let e : l .i ≡ a .h .n = omega arith in
-    c .judge-sources .ensures ∙ rows-hold (tableOf (a .h) (a .ts .now) (a .cs .now)) (l .named) (l .notes) (rw e at (l .inv .1))
+    c .judge-sources .ensures ∙ rows-hold (tableOf (a .h) (a .ts .now) (a .cs .now)) _ (l .named) (l .notes) (rw e at (l .inv .1))
 
 pub judge-rows-spec : {M : Type 1} → statement M
 judge-rows-spec =

@@ -1,30 +1,15 @@
-use lib.Dec.{leb, ltb}
 use mathlib.Core.Path.{_≡_, refl}
-use mathlib.Core.Bool.{true, false, _||_}
-use Rattle.laws.proofs.Tests.{or-is}
-use Rattle.judge.specs.Judge.{joinNoted}
 use borrow.Author.Needs.{needs}
+use Rattle.judge.specs.Judge.{joinNoted}
 use Rattle.judge.proofs.note_join.Statement.{statement}
 use Rattle.judge.proofs.note_join.Tie as tie
 
-width-requires : tie.Need-width-requires
-width-requires c κs = search needs
+note-wide-requires : tie.Need-note-wide-requires
+note-wide-requires c κs = search needs
 
 returns : tie.Need-returns
 unfolding joinNoted
-returns c =
-    let w = c .before .before .width in
-    let a = c .before .before .before .args in
-    let test : (leb (w .result) 8 || ltb (a .notes .join) (a .n)) ≡ true = c .if1 .taken in
-    rw (← w .ensures, ← or-is (leb (w .result) 8) (ltb (a .notes .join) (a .n)), test) refl
-
-returns-2 : tie.Need-returns-2
-unfolding joinNoted
-returns-2 c =
-    let w = c .before .before .width in
-    let a = c .before .before .before .args in
-    let test : (leb (w .result) 8 || ltb (a .notes .join) (a .n)) ≡ false = c .if1 .left in
-    rw (← w .ensures, ← or-is (leb (w .result) 8) (ltb (a .notes .join) (a .n)), test) refl
+returns c = rw (← c .note-wide .ensures) refl
 
 pub note-join-spec : {M : Type 1} → statement M
-note-join-spec = tie.close (tie.spec width-requires returns returns-2)
+note-join-spec = tie.close (tie.spec note-wide-requires returns)
