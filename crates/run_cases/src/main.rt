@@ -79,4 +79,7 @@ fn main() {
     try_file(b"states", b"states-base.cases", Kind::States);
     try_file(b"tables", b"tables-base.cases", Kind::Tables);
     try_file(b"standing", b"standing-1.cases", Kind::Standing);
+    try_file(b"states, request 3", b"states-3.cases", Kind::States);
+    try_file(b"tables, request 3", b"tables-3.cases", Kind::Tables);
+    try_file(b"standing, request 3", b"standing-3.cases", Kind::Standing);
 }
