@@ -25,13 +25,13 @@ use Rattle.conditions.specs.Conditions.{link, reached}
 use Rattle.reach.specs.Masks.{hasBit, linkBit, maskOf, maskAt}
 use Rattle.reach.proofs.Bits.{bit-or, bit-and, bit-none, trailing-lowest}
 use Rattle.reach.proofs.Links.{mask-reached, mask-width}
-use Rattle.sheet.specs.Table.{Table, rowBy, rowAt, conditionRowAt}
+use Rattle.sheet.specs.Table.{Table, rowBy, rowAt}
 use Rattle.sheet.specs.Rules.{termOk, sources, fewLinks, oneSource, narrow}
 use Rattle.sheet.proofs.Rows.{row-no-source, join-below, join-asked}
 use Rattle.sheet.proofs.Accepted.{links-below}
 use Rattle.judge.specs.declared.Notes.{Notes}
-use Rattle.judge.specs.Judge.{AfterConditions, Sound, sourceNoted, wideNoted, joinNoted, linksNoted, AfterRows}
-use Rattle.judge.proofs.Wanted.{Wanted, wanted-other, wanted-join}
+use Rattle.judge.specs.Judge.{AfterConditions, Sound, sourceNoted, wideNoted, joinNoted, linksNoted, Wanted, AfterRows}
+use Rattle.judge.proofs.Wanted.{wanted-other, wanted-join}
 
 -- 7: one OUT row more, or none
 counted : (c : ℕ) (s : Bool) → (or (leb 1 c) s ≡ leb 1 (c + cond s 1 0)) × (or (leb 2 c) (leb 1 c && s) ≡ leb 2 (c + cond s 1 0))

@@ -1,58 +1,32 @@
 -- The links that JOIN rows want, and check 13 from them. Assumes nothing.
-use Prim.Native.Nat.{ℕ, _+_, _*_, _<_, _≤_, _^_}
-use mathlib.Core.Path.{_≡_, refl, sym, _∙_, ap}
-use mathlib.Core.Bool.{Bool, true, false, cond, not, _&&_}
+use Prim.Native.Nat.{ℕ, _+_, _*_, _<_}
+use mathlib.Core.Path.{_≡_, refl, sym, _∙_}
+use mathlib.Core.Bool.{Bool, true, false, cond}
 use mathlib.Core.List.{List}
-use mathlib.Core.Logic.{⊎-elim, by-cases}
+use mathlib.Core.Logic.{by-cases}
 use native.Mathlib.Omega.{arith}
 use native.Mathlib.Nat.{sub-zero}
 use native.Mathlib.Decide.{ℕ-discrete}
-use lib.Bits.{bitOr, or-lt}
+use lib.Bits.{bitOr}
 use lib.Dec.{eqb, leb}
 use lib.ListN.{getD}
-use borrow.Author.Tests.{eq-eqb, eqb-true, le-leb, leb-true, not-true, not-false}
-use Rattle.laws.specs.Tests.{or}
-use Rattle.laws.specs.Sums.{count}
+use borrow.Author.Tests.{eqb-true, le-leb, leb-true}
 use Rattle.laws.specs.Lowest.{lowest}
 use Rattle.laws.specs.Checks.{placeOf}
-use Rattle.laws.proofs.Tests.{both-ways, not-both, refuted, or-true, or-l, or-r, and-l, and-r, cond-same}
-use Rattle.laws.proofs.Sums.{count-none}
+use Rattle.laws.proofs.Tests.{both-ways, cond-same}
 use Rattle.laws.proofs.Up.{filled-at}
 use Rattle.laws.proofs.Lowest.{lowest-same}
 use Rattle.laws.proofs.Checks.{place-end}
-use Rattle.conditions.specs.Conditions.{Condition, condition, reached}
-use Rattle.reach.specs.Masks.{hasBit, maskAt}
-use Rattle.reach.proofs.Bits.{bit-or, bits-same}
+use Rattle.conditions.specs.Conditions.{condition}
+use Rattle.reach.specs.Masks.{hasBit, within, maskAt}
+use Rattle.reach.proofs.Subsets.{within-has, within-all, within-first, within-second}
 use Rattle.reach.proofs.Links.{mask-reached}
 use Rattle.sheet.specs.Table.{Table, conditionRowAt}
-use Rattle.sheet.specs.Rules.{sources, unsourced, sourced}
+use Rattle.sheet.specs.Rules.{sources, wants, unsourced, sourced}
 use Rattle.sheet.proofs.Rows.{join-below, join-asked}
 use Rattle.sheet.proofs.Accepted.{links-below, none-unsourced}
 use Rattle.judge.specs.declared.Notes.{Notes}
-use Rattle.judge.specs.Judge.{AfterConditions, Sound, within, wantsWithin, rowWithin, AfterRows}
-
--- a mask is within another exactly if each of its links is there
-module _ (a b : ℕ) where
-  within-has : within a b ≡ true → (l : ℕ) → l < 64 → hasBit a l ≡ true → hasBit b l ≡ true
-  unfolding within
-  within-has e l h p = not-false (hasBit b l) (rw p at (count-none (λ l. hasBit a l && not (hasBit b l)) 64 .0 (eqb-true _ 0 e) l h))
-
-  within-all : ((l : ℕ) → l < 64 → hasBit a l ≡ true → hasBit b l ≡ true) → within a b ≡ true
-  unfolding within
-  within-all f = eq-eqb _ 0 (count-none (λ l. hasBit a l && not (hasBit b l)) 64 .1 (λ l h. refuted _ (λ e. not-both (f l h (and-l _ _ e)) (not-true (hasBit b l) (and-r (hasBit a l) _ e)))))
-
-  -- the code's test
-  pub within-is : a < 2 ^ 64 → b < 2 ^ 64 → eqb (bitOr a b) b ≡ within a b
-  within-is p q =
-      both-ways
-      (λ e. within-all (λ l h z. ap (λ (x : ℕ). hasBit x l) (sym (eqb-true (bitOr a b) b e)) ∙ (bit-or a b l ∙ or-l (hasBit b l) z)))
-      (λ e. eq-eqb (bitOr a b) b (bits-same 64 (bitOr a b) b (or-lt 64 a b p q) q (λ l h. bit-or a b l ∙ both-ways (λ z. ⊎-elim (within-has e l h) (λ y. y) (or-true z)) (or-r (hasBit a l)))))
-
-within-first : (a b : ℕ) → within a (bitOr a b) ≡ true
-within-first a b = within-all a (bitOr a b) (λ l h p. bit-or a b l ∙ or-l (hasBit b l) p)
-
-within-second : (a b : ℕ) → within b (bitOr a b) ≡ true
-within-second a b = within-all b (bitOr a b) (λ l h p. bit-or a b l ∙ or-r (hasBit a l) p)
+use Rattle.judge.specs.Judge.{AfterConditions, Sound, wantsWithin, rowWithin, Wanted, AfterRows}
 
 -- what a row wants is within more, too
 wants-more : (kind a : ℕ) (masks : List ℕ) (links links′ : ℕ) → within links links′ ≡ true → wantsWithin kind a masks links ≡ true → wantsWithin kind a masks links′ ≡ true
@@ -63,10 +37,7 @@ wants-more kind a masks links links′ more = at (eqb kind 3)
     at true e = within-all _ _ (λ l h p. within-has links links′ more l h (within-has _ _ e l h p))
     at false e = refl
 
--- what the rows below i want
-abbrev pub Wanted : List ℕ → List ℕ → ℕ → ℕ → Type 0
-Wanted ts masks i links = (j : ℕ) → j < i → rowWithin ts masks links j ≡ true
-
+-- what the rows below i want, one row further
 module _ (ts masks : List ℕ) (i links : ℕ) (f : Wanted ts masks i links) where
   wanted-next : (links′ : ℕ) → within links links′ ≡ true → rowWithin ts masks links′ i ≡ true → Wanted ts masks (i + 1) links′
   unfolding rowWithin
@@ -82,31 +53,33 @@ module _ (ts masks : List ℕ) (i links : ℕ) (f : Wanted ts masks i links) whe
 
 -- 13 of a condition row, by its mask and the links that have a source
 module _ (t : Table) (masks : List ℕ) (g : AfterConditions t masks) (q : ℕ) (low : q < t .k) (linked : ℕ) (has : (l : ℕ) → l < 64 → hasBit linked l ≡ leb 1 (sources (t .terms) (t .n) l)) where
-  abbrev asked : Condition
-  asked = condition (conditionRowAt (t .conditions)) q
+  mask-wants : (l : ℕ) → l < 64 → hasBit (getD masks q 0) l ≡ wants t q l
+  unfolding wants
+  mask-wants l h = rw (filled-at 0 (maskAt (t .conditions)) (t .k) masks q (g .masked) low) (mask-reached (condition (conditionRowAt (t .conditions)) q) l h)
 
-  mask-has : (l : ℕ) → l < 64 → hasBit (getD masks q 0) l ≡ reached asked l
-  mask-has l h = rw (filled-at 0 (maskAt (t .conditions)) (t .k) masks q (g .masked) low) (mask-reached asked l h)
+  wants-below : (l : ℕ) → wants t q l ≡ true → l < t .m
+  unfolding wants
+  wants-below l w = links-below (t .m) (t .k) (t .conditions) (g .sound) q l low w
 
   mask-sourced : within (getD masks q 0) linked ≡ eqb (unsourced t q) 0
   mask-sourced =
       both-ways
-      (λ e. none-unsourced t q .1 (λ l h r. let small : l < 64 = omega (arith, g .few-links) in leb-true 1 _ (sym (has l small) ∙ within-has _ _ e l small (mask-has l small ∙ r))))
-      (λ e. within-all _ _ (λ l h p. let r : reached asked l ≡ true = sym (mask-has l h) ∙ p in has l h ∙ le-leb 1 _ (none-unsourced t q .0 e l (links-below (t .m) (t .k) (t .conditions) (g .sound) q l low r) r)))
+      (λ e. none-unsourced t q .1 (λ l h w. let small : l < 64 = omega (arith, g .few-links) in leb-true 1 _ (sym (has l small) ∙ within-has _ _ e l small (mask-wants l small ∙ w))))
+      (λ e. within-all _ _ (λ l h p. let w : wants t q l ≡ true = sym (mask-wants l h) ∙ p in has l h ∙ le-leb 1 _ (none-unsourced t q .0 e l (wants-below l w) w)))
 
 module _ (t : Table) (masks : List ℕ) (s : Notes) (r : AfterRows t masks s) where
-  row-sourced : (j : ℕ) → j < t .n → rowWithin (t .terms) masks (s .linked) j ≡ sourced t .rule j
+  row-rule : (j : ℕ) → j < t .n → rowWithin (t .terms) masks (s .linked) j ≡ sourced t .rule j
   unfolding rowWithin wantsWithin Sound
-  row-sourced j h =
+  row-rule j h =
       cond-same (eqb (getD (t .terms) (j * 4) 0) 3) true (λ e. mask-sourced t masks (r .conditions) _ (join-below (t .terms) (t .m) (t .n) (t .k) j (r .sound j h) (eqb-true _ 3 e)) (s .linked) (r .linked)) ∙
       sym (join-asked (λ q. eqb (unsourced t q) 0) (t .terms) j)
 
   -- 13 holds where each link that is wanted has a source
   pub wanted-sourced : within (s .wanted) (s .linked) ≡ true → t .n ≡ placeOf (sourced t)
   unfolding rowWithin
-  wanted-sourced e = place-end (sourced t) (omega arith) (λ j a h. sym (row-sourced j h) ∙ wants-more _ _ masks (s .wanted) (s .linked) e (r .wanted j h))
+  wanted-sourced e = place-end (sourced t) (omega arith) (λ j a h. sym (row-rule j h) ∙ wants-more _ _ masks (s .wanted) (s .linked) e (r .wanted j h))
 
   -- ... and a search finds its place
   pub searched-sourced : lowest (rowWithin (t .terms) masks (s .linked)) 0 (t .n) ≡ placeOf (sourced t)
   unfolding placeOf
-  searched-sourced = rw sub-zero (lowest-same (rowWithin (t .terms) masks (s .linked)) (sourced t .rule) 0 (t .n) (λ j a h. row-sourced j (omega arith)))
+  searched-sourced = rw sub-zero (lowest-same (rowWithin (t .terms) masks (s .linked)) (sourced t .rule) 0 (t .n) (λ j a h. row-rule j (omega arith)))

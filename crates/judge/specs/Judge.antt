@@ -1,18 +1,17 @@
 -- What a check may rest on once those before it hold, and what the pass over the term rows notes.
 use Prim.Native.Nat.{ℕ, _+_, _*_, _<_, _≤_}
 use mathlib.Core.Path.{_≡_}
-use mathlib.Core.Bool.{Bool, true, cond, not, _&&_}
+use mathlib.Core.Bool.{Bool, true, cond}
 use mathlib.Core.List.{List}
 use lib.Bits.{bitAnd, bitOr}
 use lib.Dec.{eqb, ltb, leb}
 use lib.ListN.{length, getD, set}
 use Rattle.laws.specs.Tests.{or}
-use Rattle.laws.specs.Sums.{count}
 use Rattle.laws.specs.Up.{Filled}
 use Rattle.laws.specs.Checks.{placeOf, Holds}
 use Rattle.laws.specs.Listed.{listed}
 use Rattle.steps.specs.Rows.{Row}
-use Rattle.reach.specs.Masks.{hasBit, linkBit, maskAt}
+use Rattle.reach.specs.Masks.{hasBit, linkBit, within, maskAt}
 use Rattle.sheet.specs.Table.{Table}
 use Rattle.sheet.specs.Rules.{termOk, same, namings, timesNamed, sources, conditions, narrow}
 use Rattle.judge.specs.declared.Notes.{Notes}
@@ -73,10 +72,11 @@ pub record Misnamed (t : Table) (i : ℕ) : Type 0 where
 unfoldable pub sourceNoted : Notes → ℕ → Notes
 sourceNoted s l = record { linked = bitOr (s .linked) (linkBit l); twice = bitOr (s .twice) (bitAnd (s .linked) (linkBit l)); wanted = s .wanted; join = s .join }
 
--- a JOIN row noted, by the links that its condition reaches: "At most 8 distinct links", and they are wanted
+-- the lowest JOIN row so far whose condition reaches more than 8 links, n where there is none, once this JOIN row is noted by its mask
 unfoldable pub wideNoted : ℕ → ℕ → ℕ → ℕ → ℕ
 wideNoted join n row mask = cond (or (leb (length (listed (hasBit mask) 0 64)) 8) (ltb join n)) join row
 
+-- a JOIN row noted, by the links that its condition reaches
 unfoldable pub joinNoted : Notes → ℕ → ℕ → ℕ → Notes
 joinNoted s n row mask = record { linked = s .linked; twice = s .twice; wanted = bitOr (s .wanted) mask; join = wideNoted (s .join) n row mask }
 
@@ -84,22 +84,22 @@ joinNoted s n row mask = record { linked = s .linked; twice = s .twice; wanted =
 unfoldable pub linksNoted : Notes → ℕ → ℕ → ℕ → ℕ → List ℕ → Notes
 linksNoted s n row kind a masks = cond (eqb kind 2) (sourceNoted s a) (cond (eqb kind 3) (joinNoted s n row (getD masks a 0)) s)
 
--- no link of a mask is missing from another
-unfoldable pub within : ℕ → ℕ → Bool
-within mask links = eqb (count (λ l. hasBit mask l && not (hasBit links l)) 64) 0
-
--- ... nor one that a row wants, by its kind and first byte: a JOIN wants those that its condition reaches
+-- every link that a row wants is in a mask, by the row's kind and first byte: a JOIN wants those that its condition reaches
 unfoldable pub wantsWithin : ℕ → ℕ → List ℕ → ℕ → Bool
 wantsWithin kind a masks links = cond (eqb kind 3) (within (getD masks a 0) links) true
 
 unfoldable pub rowWithin : List ℕ → List ℕ → ℕ → ℕ → Bool
 rowWithin ts masks links j = wantsWithin (getD ts (j * 4) 0) (getD ts (j * 4 + 1) 0) masks links
 
--- 1 and 3 to 6 hold, the masks are made, and every row is noted
+-- ... of each row below i
+abbrev pub Wanted : List ℕ → List ℕ → ℕ → ℕ → Type 0
+Wanted ts masks i links = (j : ℕ) → j < i → rowWithin ts masks links j ≡ true
+
+-- 1 and 3 to 5 hold, the masks are made, and every row is noted
 pub record AfterRows (t : Table) (masks : List ℕ) (s : Notes) : Type 0 where
   pub conditions : AfterConditions t masks
   pub sound : Sound (t .m) (t .n) (t .k) (t .terms) (t .n)
   pub linked : (l : ℕ) → l < 64 → hasBit (s .linked) l ≡ leb 1 (sources (t .terms) (t .n) l)
   pub doubled : (l : ℕ) → l < 64 → hasBit (s .twice) l ≡ leb 2 (sources (t .terms) (t .n) l)
-  pub wanted : (j : ℕ) → j < t .n → rowWithin (t .terms) masks (s .wanted) j ≡ true
+  pub wanted : Wanted (t .terms) masks (t .n) (s .wanted)
   pub joined : s .join ≡ placeOf (narrow (t .m) (t .n) (t .terms) (t .conditions))

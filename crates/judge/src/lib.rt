@@ -1,4 +1,4 @@
-// The judge of a table, for any numbers and any rows: each condition row and each term row is looked at once, and term rows once more to find the row of refusal 13.
+// The judge of a table, for any numbers and any rows: each condition row and each term row is looked at once; where 13 is given, term rows once more, to find its row.
 // The last nine functions, read from the last, are the order of the checks.
 ghost use mathlib.Core.Path.{_≡_};
 ghost use Prim.Native.Nat.{_+_, _*_, _<_, _≤_};
@@ -8,7 +8,7 @@ ghost use Rattle.laws.specs.Checks.{placeOf, checked};
 ghost use Rattle.sheet.specs.Table.{tableOf, rowBy};
 ghost use Rattle.sheet.specs.Rules.{sized, conditionRule, conditionOk, childOk, termRule, conditions, terms, sourced, narrow, from3, from4, from5, from7, from13, from8, refuse, refusalOf};
 ghost use Rattle.reach.specs.Masks.{maskAt};
-ghost use Rattle.judge.specs.Judge.{Lent, AfterConditions, Sound, bumped, Few, OneMore, Children, Misnamed, sourceNoted, wideNoted, joinNoted, linksNoted, within, wantsWithin, AfterRows};
+ghost use Rattle.judge.specs.Judge.{Lent, AfterConditions, Sound, bumped, Few, OneMore, Children, Misnamed, sourceNoted, wideNoted, joinNoted, linksNoted, wantsWithin, AfterRows};
 use sheet::Head;
 use sheet::Refusal;
 
@@ -151,7 +151,7 @@ fn note_source(notes: Notes, link: u8) -> Notes
     }
 }
 
-// The lowest JOIN row so far that reaches more than 8 links, one row later.
+// The lowest JOIN row so far whose condition reaches more than 8 links, with this one.
 fn note_wide(join: usize, n: usize, row: usize, mask: u64) -> usize
     ensures { λ r. ⌜ r ≡ wideNoted join n row mask ⌝ }
 {
@@ -202,18 +202,12 @@ fn bad_term(m: usize, n: usize, k: usize, ts: &[u8], from: usize) -> usize
     i
 }
 
-fn within(mask: u64, links: u64) -> bool
-    ensures { λ r. ⌜ r ≡ within mask links ⌝ }
-{
-    (mask | links) == links
-}
-
-// Whether the links that a row wants are all among some.
+// Whether every link that a row wants is in a mask: a JOIN wants those that its condition reaches.
 fn wants_within(kind: u8, a: u8, masks: &[u64; 256], links: u64) -> bool
     ensures { λ r. ⌜ r ≡ wantsWithin kind a (now (masks .entry)) links ⌝ }
 {
     match kind {
-        3 => within(reach::mask_of(masks, a), links),
+        3 => reach::within(reach::mask_of(masks, a), links),
         _ => true,
     }
 }
@@ -225,7 +219,7 @@ fn unsourced_join(h: Head, ts: &[u8], cs: &[u8], masks: &[u64; 256], notes: Note
 {
     let n = h.n;
     let linked = notes.linked;
-    if within(notes.wanted, linked) {
+    if reach::within(notes.wanted, linked) {
         return n;
     }
     let mut row = 0;

@@ -1,4 +1,4 @@
--- DOCUMENT 02, REQUEST 3: a join on a link nobody sets, over what the calls answer. "Demands 2 and 3 concern the sheets still accepted": they ask that a table is accepted, and their text is as it was. Assumes nothing.
+-- DOCUMENT 02, REQUEST 3: a join on a link nobody sets, over what the calls answer. "Demands 2 and 3 concern the sheets still accepted": they ask that a table is accepted, so they speak of those alone. Assumes nothing.
 use Prim.Native.Nat.{ℕ, _<_}
 use mathlib.Core.Path.{_≡_, refl, sym, _∙_, ap, ap₂}
 use mathlib.Core.Bool.{true, false}
@@ -7,13 +7,13 @@ use mathlib.Core.Logic.{_↔_, Iff·trans}
 use native.Mathlib.Omega.{arith}
 use lib.ListN.{length}
 use Rattle.laws.specs.Checks.{Check, Holds, checked, AllHold}
-use Rattle.laws.proofs.Tests.{not-both, contra}
+use Rattle.laws.proofs.Tests.{not-both, upheld}
 use Rattle.laws.proofs.Checks.{checked-map}
 use Rattle.sheet.specs.declared.Head.{Head}
 use Rattle.sheet.specs.declared.Refusal.{Refusal}
 use Rattle.sheet.specs.Table.{Table, tableOf}
-use Rattle.sheet.specs.Rules.{sourced, from8, refuse, refusalOf}
-use Rattle.sheet.specs.Accepted.{Sourced, Unsourced}
+use Rattle.sheet.specs.Rules.{sourced, from8, tableChecks, refuse, refusalOf}
+use Rattle.sheet.specs.Accepted.{Sourced, UnsourcedJoin}
 use Rattle.sheet.specs.Sheet.{sheetSize, contents, tableIn}
 use Rattle.sheet.proofs.Accepted.{meets, sourced-joins, all-sourced, row-unsourced}
 use Rattle.sheet.proofs.Beyond.{meets-accepted}
@@ -32,7 +32,7 @@ use Rattle.promises.proofs.Refused.{place-fails, refused-there, first-f
 pub accepted-sourced : (t : Table) → refusalOf t .number ≡ 0 → Sourced t
 accepted-sourced t e = sourced-joins t (meets t e)
 
--- "the sheets still accepted": a table is accepted exactly if it meets the checks of document 01, and so it has
+-- "the sheets still accepted": a table is accepted exactly if it meets the checks of document 01 and each link that a JOIN's condition reaches has an OUT row
 pub accepted-exactly : (t : Table) → (refusalOf t ≡ refuse 0 0) ↔ (AllHold (upTo7 t ++ from8 t) × Sourced t)
 unfolding refusalOf AllHold
 accepted-exactly t = (
@@ -47,7 +47,7 @@ accepted-exactly t = (
 )
 
 -- a row breaks 13 exactly if it is a JOIN whose condition reaches a link with no OUT row
-broken : (t : Table) → AllHold (upTo7 t) → (j : ℕ) → j < t .n → (sourced t .rule j ≡ false) ↔ Unsourced t j
+broken : (t : Table) → AllHold (upTo7 t) → (j : ℕ) → j < t .n → (sourced t .rule j ≡ false) ↔ UnsourcedJoin t j
 unfolding AllHold
 broken t hold = row-unsourced t (hold .1 .1 .1 .0) (hold .1 .1 .0)
 
@@ -71,10 +71,14 @@ module _ (t : Table) (place : ℕ) (before after : List Check) (earlier : AllHol
     from = omega arith;
     inside = w .inside;
     breaks = broken t (w .earlier-hold) place (w .inside) .1 (w .unsourced);
-    lowest = λ j a h. contra {b = true} (λ e. absurd (w .lowest j h (broken t (w .earlier-hold) j (omega (arith, w .inside)) .0 e))) refl;
+    lowest = λ j a h. upheld _ (λ e. w .lowest j h (broken t (w .earlier-hold) j (omega (arith, w .inside)) .0 e));
   }
 
--- "Refusals: 13, place the lowest JOIN row; it stands after 7 and before 8": each call that judges a table answers 13 and a place exactly there, by its number and values
+-- "it stands after 7 and before 8"
+pub thirteen-stands : (t : Table) → tableChecks t ≡ upTo7 t ++ (sourced t ∷ from8 t)
+thirteen-stands t = refl
+
+-- "Refusals: 13, place the lowest JOIN row": each call that judges a table answers 13 and a place exactly there, by its number and values. `step_in_place` answers what `take_step` does.
 module _ (t : Table) (place : ℕ) where
   of-table : (after : List Check) → without 13 after ≡ true → (checked refuse (refuse 0 0) (upTo7 t ++ (sourced t ∷ after)) ≡ refuse 13 place) ↔ Thirteen t place
   unfolding without

@@ -5,7 +5,7 @@ use lib.ListN.{length}
 use Rattle.laws.specs.Checks.{Check, AllHold}
 use Rattle.sheet.specs.Table.{Table}
 use Rattle.sheet.specs.Rules.{sizes, settings, conditions, terms, tree, oneSource}
-use Rattle.sheet.specs.Accepted.{Unsourced}
+use Rattle.sheet.specs.Accepted.{UnsourcedJoin}
 
 -- 1 and 3 to 7, of a table
 abbrev pub upTo7 : Table → List Check
@@ -21,5 +21,5 @@ upTo7 t =
 pub record Thirteen (t : Table) (place : ℕ) : Type 0 where
   pub earlier-hold : AllHold (upTo7 t)
   pub inside : place < t .n
-  pub unsourced : Unsourced t place
-  pub lowest : (j : ℕ) → j < place → Unsourced t j → ⊥
+  pub unsourced : UnsourcedJoin t place
+  pub lowest : (j : ℕ) → j < place → UnsourcedJoin t j → ⊥

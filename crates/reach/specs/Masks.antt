@@ -1,9 +1,10 @@
 -- The links below 64 that a condition reaches, as the binary digits of a number.
 use Prim.Native.Nat.{ℕ, _/_, _%_, _^_}
-use mathlib.Core.Bool.{Bool, cond}
+use mathlib.Core.Bool.{Bool, cond, not, _&&_}
 use mathlib.Core.List.{List}
 use lib.Dec.{eqb, ltb}
 use lib.Bits.{bitOr}
+use Rattle.laws.specs.Sums.{count}
 use Rattle.conditions.specs.Conditions.{Condition, constant, link, op, ConditionRow, FALSE, TRUE, LINK, OP, condition}
 use Rattle.sheet.specs.Table.{conditionRowAt}
 
@@ -18,6 +19,10 @@ unfoldable pub maskOf : Condition → ℕ
 maskOf (constant b) = 0
 maskOf (link l) = linkBit l
 maskOf (op o a b) = bitOr (maskOf a) (maskOf b)
+
+-- every link of a mask is in another
+unfoldable pub within : ℕ → ℕ → Bool
+within mask links = eqb (count (λ l. hasBit mask l && not (hasBit links l)) 64) 0
 
 -- the mask of a condition row, from those of other rows
 unfoldable pub maskBy : ConditionRow → (ℕ → ℕ) → ℕ

@@ -6,7 +6,7 @@ ghost use lib.Bits.{bitOr};
 ghost use Rattle.laws.specs.Up.{Filled};
 ghost use Rattle.laws.specs.Listed.{listed};
 ghost use Rattle.sheet.specs.Table.{conditionRowBy, conditionRowAt};
-ghost use Rattle.reach.specs.Masks.{hasBit, linkBit, maskBy, maskAt};
+ghost use Rattle.reach.specs.Masks.{hasBit, linkBit, within, maskBy, maskAt};
 
 // A link as a bit; none from 64 on.
 pub fn bit(l: u8) -> u64
@@ -72,6 +72,13 @@ pub fn reached(mask: u64, l: usize) -> bool
     ensures { λ r. ⌜ r ≡ hasBit mask l ⌝ }
 {
     (mask >> l) % 2 == 1
+}
+
+// Whether every link of a mask is in another.
+pub fn within(mask: u64, links: u64) -> bool
+    ensures { λ r. ⌜ r ≡ within mask links ⌝ }
+{
+    (mask | links) == links
 }
 
 // How many links a mask has.

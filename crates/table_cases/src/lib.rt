@@ -1,10 +1,11 @@
-// Cases of calls on a table: it is judged and written (call 1), and what was written is read back.
+// Cases of calls on a table: it is judged, put to the verdict, started and written (call 1), and what was written is read back.
 use cases::first;
 use cases::wide;
 use codec::SheetAnswer;
 use codec::SizeAnswer;
 use sheet::Head;
 use sheet::Refusal;
+use sheet_engine::VerdictAnswer;
 
 fn same_head(a: Head, b: Head) -> bool {
     (a.evaluation == b.evaluation) & (a.m == b.m) & (a.n == b.n) & (a.k == b.k)
@@ -76,12 +77,30 @@ fn written_agrees(out: &[u8], size: usize, h: Head, ts: &[u8], cs: &[u8]) -> boo
     sheet_agrees(first(out, size), h, ts, cs) & cut_agrees(first(out, last))
 }
 
-fn judged(h: Head, ts: &[u8], cs: &[u8], number: u8, place: usize) -> bool {
-    let r = sheet_engine::judge_table(h, ts, cs);
-    (r.number == number) & (r.place == place)
+// Number and place of a verdict's refusal, 0 and 0 where a verdict is given.
+fn unjudged(answer: VerdictAnswer) -> Refusal {
+    match answer {
+        VerdictAnswer::Refused(number, place) => Refusal { number, place },
+        _ => Refusal {
+            number: 0,
+            place: 0,
+        },
+    }
 }
 
-// Judging answers what writing does, but that a short buffer is no fault of the table; what was written is read back.
+fn judged(h: Head, ts: &[u8], cs: &[u8], number: u8, place: usize) -> bool {
+    let r = sheet_engine::judge_table(h, ts, cs);
+    let v = unjudged(sheet_engine::give_verdict(h, ts, cs));
+    let s = sheet_engine::start(h, ts, cs, 1);
+    (r.number == number)
+        & (r.place == place)
+        & (v.number == number)
+        & (v.place == place)
+        & (s.number == number)
+        & (s.place == place)
+}
+
+// Judging, the verdict and starting answer what writing does, but that a short buffer is no fault of the table; what was written is read back.
 fn others_agree(answer: SizeAnswer, out: &[u8], h: Head, ts: &[u8], cs: &[u8]) -> bool {
     match answer {
         SizeAnswer::Size(size) => judged(h, ts, cs, 0, 0) & written_agrees(out, size, h, ts, cs),

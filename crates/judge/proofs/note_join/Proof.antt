@@ -1,4 +1,4 @@
-use mathlib.Core.Path.{_≡_, refl}
+use mathlib.Core.Path.{refl}
 use borrow.Author.Needs.{needs}
 use Rattle.judge.specs.Judge.{joinNoted}
 use Rattle.judge.proofs.note_join.Statement.{statement}

@@ -1,7 +1,7 @@
 use native.Mathlib.Omega.{arith}
-use Rattle.judge.proofs.Wanted.{within-is}
-use Rattle.judge.proofs.within.Statement.{statement}
-use Rattle.judge.proofs.within.Tie as tie
+use Rattle.reach.proofs.Subsets.{within-is}
+use Rattle.reach.proofs.within.Statement.{statement}
+use Rattle.reach.proofs.within.Tie as tie
 
 returns : tie.Need-returns
 returns c = within-is (c .args .mask) (c .args .links) (omega arith) (omega arith)
