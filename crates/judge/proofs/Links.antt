@@ -131,6 +131,10 @@ module _ (t : Table) (masks : List ℕ) (g : AfterConditions t masks) (i : ℕ) 
   none-joined : eqb kind 3 ≡ false → Noted narrows (i + 1) (s .join)
   none-joined three = noted-more narrows i (s .join) (b .joined) low (rw (join-asked (fewLinks (t .m) (t .conditions)) (t .terms) i, three))
 
+  -- 8 of a JOIN row, by its mask
+  few-noted : eqb kind 3 ≡ true → leb (length (listed (hasBit (getD masks byte 0)) 0 64)) 8 ≡ narrows .rule i
+  few-noted three = rw (join-asked (fewLinks (t .m) (t .conditions)) (t .terms) i, three) (mask-few t masks g byte (join-below (t .terms) (t .m) (t .n) (t .k) i ok (eqb-true kind 3 three)))
+
   source-noted : eqb kind 2 ≡ true → NotedBelow t masks (i + 1) (sourceNoted s byte)
   unfolding sourceNoted
   source-noted two =
@@ -144,13 +148,12 @@ module _ (t : Table) (masks : List ℕ) (g : AfterConditions t masks) (i : ℕ) 
   join-noted : eqb kind 2 ≡ false → eqb kind 3 ≡ true → NotedBelow t masks (i + 1) (joinNoted s (t .n) i (getD masks byte 0))
   unfolding joinNoted wideNoted
   join-noted two three =
-      let rule : leb (length (listed (hasBit (getD masks byte 0)) 0 64)) 8 ≡ narrows .rule i = rw (join-asked (fewLinks (t .m) (t .conditions)) (t .terms) i, three) (mask-few t masks g byte (join-below (t .terms) (t .m) (t .n) (t .k) i ok (eqb-true kind 3 three))) in
       record {
         linked = none-linked two;
         wanted = wanted-join (t .terms) masks i (s .wanted) (b .wanted) three;
         joined = cond-cases (Noted narrows (i + 1)) _
-            (λ e. ⊎-elim (λ k. noted-more narrows i (s .join) (b .joined) low (sym rule ∙ k)) (λ k. noted-before narrows i (s .join) (b .joined) (ltb-true _ _ k)) (or-true e))
-            (λ e. noted-here narrows i (s .join) (b .joined) (ltb-false _ _ (or-false e .1)) low (sym rule ∙ or-false e .0));
+            (λ e. ⊎-elim (λ k. noted-more narrows i (s .join) (b .joined) low (sym (few-noted three) ∙ k)) (λ k. noted-before narrows i (s .join) (b .joined) (ltb-true _ _ k)) (or-true e))
+            (λ e. noted-here narrows i (s .join) (b .joined) (ltb-false _ _ (or-false e .1)) low (sym (few-noted three) ∙ or-false e .0));
       }
 
   pub row-noted : NotedBelow t masks (i + 1) (linksNoted s (t .n) i kind byte masks)

@@ -89,24 +89,38 @@ passed-over n p (c ∷ cs) ds w e =
     ((place-holds c (placeOf c) refl g, held), later))
 
 -- ... so where one check alone has its number, those before it hold, and it fails there
-pub refused-there : (before : List Check) (c : Check) (after : List Check) (p : ℕ) → (c .number ≡ 0 → ⊥) → without (c .number) before ≡ true → without (c .number) after ≡ true → checked refuse (refuse 0 0) (before ++ (c ∷ after)) ≡ refuse (c .number) p → AllHold before × (p ≡ placeOf c) × (p < c .upto)
-unfolding checked
-refused-there before c after p some b a e =
-    let (held, here) = passed-over (c .number) p before (c ∷ after) b e in
-    by-cases (decLt (placeOf c) (c .upto))
-    (λ h. let place : placeOf c ≡ p = ap (λ (r : Refusal). r .place) (checked-fails refuse (refuse 0 0) c after (placeOf c) refl h ∙ here) in (held, sym place, rw place at h))
-    (λ h. let none = passed-over (c .number) p after [] a (rw append-nil (checked-holds refuse (refuse 0 0) c after (placeOf c) refl (omega arith) ∙ here)) in absurd (some (sym (ap (λ (r : Refusal). r .number) (none .1)))))
+module _ (before : List Check) (c : Check) (after : List Check) (p : ℕ) (some : c .number ≡ 0 → ⊥) (b : without (c .number) before ≡ true) (a : without (c .number) after ≡ true) where
+  pub refused-there : checked refuse (refuse 0 0) (before ++ (c ∷ after)) ≡ refuse (c .number) p → AllHold before × (p ≡ placeOf c) × (p < c .upto)
+  unfolding checked
+  refused-there e =
+      let (held, here) = passed-over (c .number) p before (c ∷ after) b e in
+      by-cases (decLt (placeOf c) (c .upto))
+      (λ h. let place : placeOf c ≡ p = ap (λ (r : Refusal). r .place) (checked-fails refuse (refuse 0 0) c after (placeOf c) refl h ∙ here) in (held, sym place, rw place at h))
+      (λ h. let none = passed-over (c .number) p after [] a (rw append-nil (checked-holds refuse (refuse 0 0) c after (placeOf c) refl (omega arith) ∙ here)) in absurd (some (sym (ap (λ (r : Refusal). r .number) (none .1)))))
+
+-- a check taken out of a list
+pub one-out : (before : List Check) (c : Check) (after : List Check) → AllHold (before ++ (c ∷ after)) ↔ (AllHold (before ++ after) × Holds c)
+unfolding AllHold
+one-out [] c after = ((λ (h, rest). (rest, h)), λ (rest, h). (h, rest))
+one-out (x ∷ before) c after =
+    let (to, back) = one-out before c after in
+    ((λ (first, all). let (rest, h) = to all in ((first, rest), h)), λ ((first, rest), h). (first, back (rest, h)))
+
+-- what is read of a refusal is its number and its place
+abbrev pub Reads : {A : Type 0} → (A → ℕ) → (A → ℕ) → (ℕ → ℕ → A) → Type 0
+Reads number place refused = (n p : ℕ) → (number (refused n p) ≡ n) × (place (refused n p) ≡ p)
 
 -- an answer's number and place are those of a refusal exactly if its checks give that
-pub values-told : {A : Type 0} (number place : A → ℕ) {refused : ℕ → ℕ → A} {good : A} {cs : List Check} {a : A} → Answers number refused good cs a → ((n p : ℕ) → (number (refused n p) ≡ n) × (place (refused n p) ≡ p)) → (n p : ℕ) → (n ≡ 0 → ⊥) → ((number a ≡ n) × (place a ≡ p)) ↔ (checked refuse (refuse 0 0) cs ≡ refuse n p)
-values-told number place {refused} {good} {cs} {a} told is n p some = (
-  λ (e, f).
-      let r = told .refusal (λ z. some (sym e ∙ z)) in
-      ap₂ refuse (sym (is _ _ .0) ∙ (sym (ap number r) ∙ e)) (sym (is _ _ .1) ∙ (sym (ap place r) ∙ f)),
-  λ e.
-      let r = told .refusal (λ z. some (sym (ap (λ (r : Refusal). r .number) (sym (all-hold refuse (refuse 0 0) cs (told .accepts .0 z)) ∙ e)))) in
-      (ap number r ∙ (is _ _ .0 ∙ ap (λ (r : Refusal). r .number) e), ap place r ∙ (is _ _ .1 ∙ ap (λ (r : Refusal). r .place) e)),
-)
+module _ {A : Type 0} (number place : A → ℕ) {refused : ℕ → ℕ → A} {good : A} {cs : List Check} {a : A} (told : Answers number refused good cs a) (is : Reads number place refused) where
+  pub values-told : (n p : ℕ) → (n ≡ 0 → ⊥) → ((number a ≡ n) × (place a ≡ p)) ↔ (checked refuse (refuse 0 0) cs ≡ refuse n p)
+  values-told n p some = (
+    λ (e, f).
+        let r = told .refusal (λ z. some (sym e ∙ z)) in
+        ap₂ refuse (sym (is _ _ .0) ∙ (sym (ap number r) ∙ e)) (sym (is _ _ .1) ∙ (sym (ap place r) ∙ f)),
+    λ e.
+        let r = told .refusal (λ z. some (sym (ap (λ (r : Refusal). r .number) (sym (all-hold refuse (refuse 0 0) cs (told .accepts .0 z)) ∙ e)))) in
+        (ap number r ∙ (is _ _ .0 ∙ ap (λ (r : Refusal). r .number) e), ap place r ∙ (is _ _ .1 ∙ ap (λ (r : Refusal). r .place) e)),
+  )
 
 -- AN ANSWER BY CHECKS is the good one or the refusal of the first that fails
 pub answered : {A : Type 0} (refused : ℕ → ℕ → A) (good : A) (cs : List Check) → Answered refused good cs (checked refused good cs)

@@ -8,7 +8,7 @@ use native.Mathlib.Omega.{arith}
 use lib.ListN.{length}
 use Rattle.laws.specs.Checks.{Check, Holds, checked, AllHold}
 use Rattle.laws.proofs.Tests.{not-both, upheld}
-use Rattle.laws.proofs.Checks.{checked-map}
+use Rattle.laws.proofs.Checks.{checked-map, all-hold}
 use Rattle.sheet.specs.declared.Head.{Head}
 use Rattle.sheet.specs.declared.Refusal.{Refusal}
 use Rattle.sheet.specs.Table.{Table, tableOf}
@@ -16,7 +16,6 @@ use Rattle.sheet.specs.Rules.{sourced, from8, tableChecks, refuse, refusalOf}
 use Rattle.sheet.specs.Accepted.{Sourced, UnsourcedJoin}
 use Rattle.sheet.specs.Sheet.{sheetSize, contents, tableIn}
 use Rattle.sheet.proofs.Accepted.{meets, sourced-joins, all-sourced, row-unsourced}
-use Rattle.sheet.proofs.Beyond.{meets-accepted}
 use Rattle.sheet.proofs.Refusals.{without}
 use Rattle.codec.specs.Answers.{readOf, writeOf}
 use Rattle.state.specs.declared.State.{State}
@@ -24,9 +23,9 @@ use Rattle.state.specs.State.{freshOf}
 use Rattle.sheet_engine.specs.declared.Started.{Started}
 use Rattle.sheet_engine.specs.Answers.{verdictAnswer, startChecks, started, notStarted, startAnswer, listAnswer, standingAnswer, kindAnswer, stepAnswer}
 use Rattle.sheet_engine.specs.Values.{VerdictValues, verdictValues, SheetValues, sheetValues, SizeValues, sizeValues, StandingValues, standingValues, StepValues, stepValues, Answers}
-use Rattle.sheet_engine.proofs.Values.{read-answers, write-answers, verdict-answers, list-answers, standing-answers, kind-answers, step-answers}
+use Rattle.sheet_engine.proofs.Values.{all-held, read-answers, write-answers, verdict-answers, list-answers, standing-answers, kind-answers, step-answers}
 use Rattle.promises.specs.Sources.{upTo7, Thirteen}
-use Rattle.promises.proofs.Refused.{place-fails, refused-there, first-fails, values-told}
+use Rattle.promises.proofs.Refused.{place-fails, refused-there, one-out, first-fails, Reads, values-told}
 
 -- "A sheet in which a JOIN's condition reaches a link with no OUT row is to be refused": of an accepted table, each link that a JOIN's condition reaches has one
 pub accepted-sourced : (t : Table) → refusalOf t .number ≡ 0 → Sourced t
@@ -34,16 +33,12 @@ accepted-sourced t e = sourced-joins t (meets t e)
 
 -- "the sheets still accepted": a table is accepted exactly if it meets the checks of document 01 and each link that a JOIN's condition reaches has an OUT row
 pub accepted-exactly : (t : Table) → (refusalOf t ≡ refuse 0 0) ↔ (AllHold (upTo7 t ++ from8 t) × Sourced t)
-unfolding refusalOf AllHold
+unfolding refusalOf AllHold without
 accepted-exactly t = (
-  λ e. let g = meets t (ap (λ (r : Refusal). r .number) e) in (((λ p a h. g .rule-1), (g .rule-3, (g .rule-4, (g .rule-5, (g .rule-6, (g .rule-7, (g .rule-8, tt))))))), sourced-joins t g),
-  λ (h, s).
-      let three = h .1 in
-      let four = three .1 in
-      let five = four .1 in
-      let six = five .1 in
-      let seven = six .1 in
-      meets-accepted refuse (refuse 0 0) t record { rule-1 = h .0 0 (omega arith) (omega arith); rule-3 = three .0; rule-4 = four .0; rule-5 = five .0; rule-6 = six .0; rule-7 = seven .0; rule-13 = all-sourced t (five .0) (four .0) .1 s; rule-8 = seven .1 .0 },
+  λ e.
+      let (rest, thirteen) = one-out (upTo7 t) (sourced t) (from8 t) .0 (all-held (tableChecks t) refl (ap (λ (r : Refusal). r .number) e)) in
+      (rest, all-sourced t (rest .1 .1 .1 .0) (rest .1 .1 .0) .0 thirteen),
+  λ (rest, s). all-hold refuse (refuse 0 0) (tableChecks t) (one-out (upTo7 t) (sourced t) (from8 t) .1 (rest, all-sourced t (rest .1 .1 .1 .0) (rest .1 .1 .0) .1 s)),
 )
 
 -- a row breaks 13 exactly if it is a JOIN whose condition reaches a link with no OUT row
@@ -84,8 +79,9 @@ module _ (t : Table) (place : ℕ) where
   unfolding without
   of-table after a = ((λ e. told t place (upTo7 t) after (λ h. h) refl a e .1), λ w. given t place (upTo7 t) after (λ h. h) (w .earlier-hold) w)
 
-  of-call : {A : Type 0} (number at : A → ℕ) {refused : ℕ → ℕ → A} {good a : A} (after : List Check) → Answers number refused good (upTo7 t ++ (sourced t ∷ after)) a → ((n p : ℕ) → (number (refused n p) ≡ n) × (at (refused n p) ≡ p)) → without 13 after ≡ true → ((number a ≡ 13) × (at a ≡ place)) ↔ Thirteen t place
-  of-call number at after answers is w = Iff·trans (values-told number at answers is 13 place (λ z. omega arith)) (of-table after w)
+  module _ {A : Type 0} (number at : A → ℕ) {refused : ℕ → ℕ → A} {good a : A} (after : List Check) where
+    of-call : Answers number refused good (upTo7 t ++ (sourced t ∷ after)) a → Reads number at refused → without 13 after ≡ true → ((number a ≡ 13) × (at a ≡ place)) ↔ Thirteen t place
+    of-call answers is w = Iff·trans (values-told number at answers is 13 place (λ z. omega arith)) (of-table after w)
 
   pub judge-table-13 : (refusalOf t ≡ refuse 13 place) ↔ Thirteen t place
   unfolding refusalOf without

@@ -44,7 +44,7 @@ use Rattle.sheet_engine.proofs.Steps.{no-kind}
 use Rattle.sheet_engine.proofs.Stands.{stands-rows}
 
 -- every check holds where none gives its number
-all-held : (cs : List Check) → without 0 cs ≡ true → checked refuse (refuse 0 0) cs .number ≡ 0 → AllHold cs
+pub all-held : (cs : List Check) → without 0 cs ≡ true → checked refuse (refuse 0 0) cs .number ≡ 0 → AllHold cs
 all-held cs n e = unrefused (λ n p. false) true cs (λ _ _ z. true≢false (accepted-by (λ n p. false) true cs n e ∙ z))
 
 module _ {A : Type 0} (number : A → ℕ) (refused : ℕ → ℕ → A) (good : A) (told : (n p : ℕ) → number (refused n p) ≡ n) (zero : number good ≡ 0) (cs : List Check) (some-number : without 0 cs ≡ true) where

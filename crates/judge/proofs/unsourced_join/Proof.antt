@@ -41,8 +41,11 @@ wants-within-requires c κs = search needs
 
 returns-2 : tie.Need-returns-2 Inv-loop μ-loop
 unfolding rowWithin
-returns-2 c = let l = c .before .before .before .before .before .loop in
-    searched-stop _ _ (l .row) (l .inv) (c .before .before .before .before .loop-test .taken) (sym (c .before .wants-within .ensures) ∙ not-true _ (c .if2 .taken)) ∙ searched-sourced _ _ _ (c .before .before .before .before .before .before .before .before .before .before .pre)
+returns-2 c =
+    let l = c .before .before .before .before .before .loop in
+    let p = c .before .before .before .before .before .before .before .before .before .before .pre in
+    let e = sym (c .before .wants-within .ensures) ∙ not-true _ (c .if2 .taken) in
+    searched-stop _ _ (l .row) (l .inv) (c .before .before .before .before .loop-test .taken) e ∙ searched-sourced _ _ _ p
 
 add-row : tie.Need-add-row Inv-loop μ-loop
 add-row c = omega arith
