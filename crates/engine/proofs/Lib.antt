@@ -1,2 +1,3 @@
 pub mod Known
 pub mod Rows
+pub mod Waits

@@ -1,6 +1,6 @@
 -- The rows that have a step and the JOINs in front, from the tables, and the rows that a state waits for. Assumes nothing.
 use Prim.Native.Nat.{ℕ, _*_}
-use mathlib.Core.Path.{_≡_, refl, sym, ap, _∙_}
+use mathlib.Core.Path.{_≡_, refl, sym, ap, ap₂, _∙_}
 use mathlib.Core.Bool.{Bool, true, false, _&&_, and-true}
 use mathlib.Core.List.{List, [], _∷_}
 use native.Mathlib.Omega.{arith}
@@ -19,11 +19,10 @@ use Rattle.sheet.specs.Accepted.{WellFormed}
 use Rattle.sheet.proofs.Rows.{row-join}
 use Rattle.state.specs.declared.State.{State}
 use Rattle.moves.specs.Steps.{marksOf, nodes, hasStep, listedOf}
-use Rattle.moves.specs.Standing.{joinInFront, joinsOf, waitingOf}
-use Rattle.moves.proofs.Standing.{waiting-cases}
-use Rattle.flags.specs.Flags.{flagged, Shows}
-use Rattle.flags.proofs.Shown.{shown, shown-listed}
-use Rattle.engine.specs.ByValue.{isStep, stepFrom, joinFrom}
+use Rattle.moves.specs.Standing.{joinInFront, joinsOf, waitingBy, waitingOf}
+use Rattle.flags.specs.Flags.{flagged}
+use Rattle.flags.proofs.Shown.{shown}
+use Rattle.engine.specs.ByValue.{isStep, stepFrom, joinFrom, stepsFrom, waitingFrom}
 use Rattle.engine.proofs.Known.{Knows, asked-reached, kind-known, kind-step}
 
 -- a JOIN in front, by the kind of the row
@@ -45,31 +44,31 @@ front-join (PREFIX (out l v) c) m true = sym (and-false (waitsBy (stand m)))
 front-join (PREFIX (join q) c) m true = sym (and-true (waitsBy (stand m)))
 front-join (BRANCH κ p q) m true = sym (and-false (waiting (BRANCH κ p q) m))
 
--- the flagged rows are document 01's
-module _ (t : Table) (s : State) (seen vals : List ℕ) (k : Knows t s seen vals) (flags : List ℕ) where
-  pub steps-known : WellFormed t → Shows (stepFrom (t .terms) (t .n) (s .mode) (s .marks) seen vals) (t .n) flags → listed (flagged flags) 0 (t .n) ≡ listedOf t s
-  unfolding stepFrom listedOf
-  steps-known w g = shown-listed _ (t .n) flags g ∙ listed-same _ (hasStep t s) 0 (t .n) (λ r a h. ap isStep (kind-known t w s seen vals k r) ∙ kind-step t s r)
-
-  pub joins-known : Shows (joinFrom (t .terms) (s .marks) seen) (t .n) flags → listed (flagged flags) 0 (t .n) ≡ joinsOf t s
+-- from the tables, the rows are document 01's
+module _ (t : Table) (s : State) (seen vals : List ℕ) (k : Knows t s seen vals) where
+  joins-from : listed (joinFrom (t .terms) (s .marks) seen) 0 (t .n) ≡ joinsOf t s
   unfolding joinFrom joinsOf joinInFront inFront
-  joins-known g =
-      shown-listed _ (t .n) flags g
-      ∙ listed-same _ (joinInFront t s) 0 (t .n) (λ r a h.
+  joins-from =
+      listed-same _ (joinInFront t s) 0 (t .n) (λ r a h.
       ap (λ (b : Bool). b && (isJoin (nodes t r) && waitsBy (stand (marksOf s r)))) (shown _ (t .n) seen (k .seen-shows) r (omega arith) ∙ asked-reached (nodes t) (marksOf s) r)
       ∙ (front-join (nodes t r) (marksOf s r) (reached (nodes t) (marksOf s) r) ∙ rw (lt-ltb r (t .n) (omega arith)) refl))
 
-empty : (xs : List ℕ) → length xs ≡ 0 → xs ≡ []
-empty [] e = refl
-empty (x ∷ xs) e = absurd (omega arith)
+  module _ (w : WellFormed t) where
+    pub steps-from : stepsFrom (t .terms) (t .n) (s .mode) (s .marks) seen vals ≡ listedOf t s
+    unfolding stepsFrom stepFrom listedOf
+    steps-from = listed-same _ (hasStep t s) 0 (t .n) (λ r a h. ap isStep (kind-known t w s seen vals k r) ∙ kind-step t s r)
+
+    pub waiting-from : waitingFrom (t .terms) (t .n) (s .mode) (s .marks) seen vals ≡ waitingOf t s
+    unfolding waitingFrom waitingOf
+    waiting-from = ap₂ waitingBy steps-from joins-from
 
 -- how many rows have a step tells what the state waits for; where it is nothing, nothing is written
-module _ (t : Table) (s : State) (steps : ℕ) (e : steps ≡ length (listedOf t s)) where
-  pub nothing-waits : (steps ≡ 0 → ⊥) → (lent : List ℕ) → (0 ≡ length (waitingOf t s)) × (lent ≡ written (waitingOf t s) lent)
-  nothing-waits h lent =
-      waiting-cases t s (λ xs. (0 ≡ length xs) × (lent ≡ written xs lent))
-      (λ some. (refl, written-fits [] lent lent (omega arith) refl))
-      (λ none. absurd (h (e ∙ ap length none)))
+pub nothing-waits : (steps joins : List ℕ) (k : ℕ) → k ≡ length steps → (k ≡ 0 → ⊥) → (lent : List ℕ) → (0 ≡ length (waitingBy steps joins)) × (lent ≡ written (waitingBy steps joins) lent)
+unfolding waitingBy
+nothing-waits [] joins k e h lent = absurd (h e)
+nothing-waits (x ∷ steps) joins k e h lent = (refl, written-fits [] lent lent (omega arith) refl)
 
-  pub waits-joins : steps ≡ 0 → waitingOf t s ≡ joinsOf t s
-  waits-joins h = waiting-cases t s (λ xs. xs ≡ joinsOf t s) (λ some. absurd (some (empty (listedOf t s) (sym e ∙ h)))) (λ none. refl)
+pub waits-joins : (steps joins : List ℕ) (k : ℕ) → k ≡ length steps → k ≡ 0 → waitingBy steps joins ≡ joins
+unfolding waitingBy
+waits-joins [] joins k e h = refl
+waits-joins (x ∷ steps) joins k e h = absurd (omega arith)

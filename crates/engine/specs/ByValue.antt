@@ -5,6 +5,7 @@ use mathlib.Core.List.{List}
 use lib.Dec.{eqb, ltb}
 use lib.ListN.{getD}
 use Rattle.laws.specs.Tests.{bit}
+use Rattle.laws.specs.Listed.{listed}
 use Rattle.calculus.specs.Process.{Prefix, act, out, join}
 use Rattle.calculus.specs.Places.{cleans}
 use Rattle.steps.specs.Rows.{Row, NIL, PREFIX, BRANCH, isJoin}
@@ -16,6 +17,7 @@ use Rattle.state.specs.declared.State.{State}
 use Rattle.state.specs.declared.StepKind.{StepKind}
 use Rattle.state.specs.declared.StepKind.the-variants.{Act, Set, Open, Clean, Refused}
 use Rattle.moves.specs.Steps.{modeOf, kindAt, steppedOf}
+use Rattle.moves.specs.Standing.{waitingBy}
 use Rattle.flags.specs.Flags.{flagged}
 use Rattle.engine.specs.declared.Stepped.{Stepped}
 
@@ -49,6 +51,13 @@ stepFrom ts n mode marks seen vals r = isStep (kindFrom ts n mode (λ k. getD ma
 -- the row is a JOIN in front, from the tables of marks and of what is reached
 unfoldable pub joinFrom : List ℕ → List ℕ → List ℕ → ℕ → Bool
 joinFrom ts marks seen r = flagged seen r && (isJoin (rowAt ts r) && waitsBy (stand (getD marks r 0)))
+
+-- the rows that have a step, and those that the state waits for, from these tables
+unfoldable pub stepsFrom : List ℕ → ℕ → ℕ → List ℕ → List ℕ → List ℕ → List ℕ
+stepsFrom ts n mode marks seen vals = listed (stepFrom ts n mode marks seen vals) 0 n
+
+unfoldable pub waitingFrom : List ℕ → ℕ → ℕ → List ℕ → List ℕ → List ℕ → List ℕ
+waitingFrom ts n mode marks seen vals = waitingBy (stepsFrom ts n mode marks seen vals) (listed (joinFrom ts marks seen) 0 n)
 
 -- the kind that was taken, or 11 and the row; and the state after
 unfoldable pub takenAnswer : Table → State → ℕ → Stepped

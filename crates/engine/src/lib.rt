@@ -1,4 +1,4 @@
-// The step of a row in a state, the list of steps, taking one, and how a state stands, for an accepted table.
+// The step of a row in a state, the list of steps, taking one, how a state stands and what it waits for, for an accepted table.
 ghost use mathlib.Core.Path.{_≡_};
 ghost use Prim.Native.Nat.{_+_, _*_, _<_, _≤_};
 ghost use lib.ListN.{length, getD};
@@ -7,9 +7,9 @@ ghost use Rattle.sheet.specs.Table.{tableOf, rowAt};
 ghost use Rattle.sheet.specs.Accepted.{WellFormed};
 ghost use Rattle.evaluate.specs.Values.{valueIn};
 ghost use Rattle.moves.specs.Steps.{kindAt, listedOf};
-ghost use Rattle.moves.specs.Standing.{waitingOf};
+ghost use Rattle.moves.specs.Standing.{waitingOf, awaitsOf};
 ghost use Rattle.flags.specs.Flags.{flagged, Shows};
-ghost use Rattle.engine.specs.ByValue.{joinKind, rowKind, kindFrom, isStep, stepFrom, joinFrom, takenAnswer};
+ghost use Rattle.engine.specs.ByValue.{joinKind, rowKind, kindFrom, isStep, stepFrom, joinFrom, stepsFrom, waitingFrom, takenAnswer};
 use evaluate::Values;
 use sheet::Head;
 use state::State;
@@ -206,22 +206,55 @@ fn show_joins(flags: &mut [u8; 256], ts: &[u8], n: usize, marks: &[u8; 256], rea
     }
 }
 
-// How a state stands; the rows that it waits for go to a lent buffer, and one that is too short is left as it is.
+// How a state stands, from what is reached and the values of the conditions; the rows that it waits for go to a lent buffer, and one that is too short is left as it is.
+fn stand_by(
+    ts: &[u8],
+    n: usize,
+    mode: u8,
+    marks: &[u8; 256],
+    reached: &[u8; 256],
+    vals: &Values,
+    out: &mut [u8],
+) -> Standing
+    requires { ⌜ (n * 4 ≤ length (now ts)) × (n ≤ 256) ⌝ }
+    ensures { λ r. ⌜ (r .steps ≡ length (stepsFrom (now (ts .entry)) n mode (now (marks .entry)) (now (reached .entry)) (now (vals .entry)))) × ((r .waiting ≡ length (waitingFrom (now (ts .entry)) n mode (now (marks .entry)) (now (reached .entry)) (now (vals .entry)))) × (now (out .exit) ≡ written (waitingFrom (now (ts .entry)) n mode (now (marks .entry)) (now (reached .entry)) (now (vals .entry))) (now (out .entry)))) ⌝ }
+{
+    let mut flags = [0; 256];
+    show_steps(&mut flags, ts, n, mode, marks, reached, vals);
+    let steps = flags::count(&flags, n);
+    if steps != 0 {
+        return Standing { steps, waiting: 0 };
+    }
+    show_joins(&mut flags, ts, n, marks, reached);
+    Standing {
+        steps,
+        waiting: flags::fill(&flags, n, out),
+    }
+}
+
+// How a state stands, and the rows that it waits for.
 pub fn stand(h: Head, ts: &[u8], cs: &[u8], s: State, out: &mut [u8]) -> Standing
     requires { ⌜ WellFormed (tableOf h (now ts) (now cs)) ⌝ }
     ensures { λ r. ⌜ (r .steps ≡ length (listedOf (tableOf h (now (ts .entry)) (now (cs .entry))) s)) × ((r .waiting ≡ length (waitingOf (tableOf h (now (ts .entry)) (now (cs .entry))) s)) × (now (out .exit) ≡ written (waitingOf (tableOf h (now (ts .entry)) (now (cs .entry))) s) (now (out .entry)))) ⌝ }
 {
     let reached = front::ask(front::REACHED, ts, h.n, &s.marks);
     let vals = evaluate::values(h.evaluation, cs, h.k, &s.links);
-    let mut flags = [0; 256];
-    show_steps(&mut flags, ts, h.n, s.mode, &s.marks, &reached, &vals);
-    let steps = flags::count(&flags, h.n);
-    if steps != 0 {
-        return Standing { steps, waiting: 0 };
+    stand_by(ts, h.n, s.mode, &s.marks, &reached, &vals, out)
+}
+
+// For each row that a state waits for its link, or 255, to a lent buffer, and their number; a buffer that is too short is left as it is.
+pub fn wait(h: Head, ts: &[u8], cs: &[u8], s: State, out: &mut [u8]) -> usize
+    requires { ⌜ WellFormed (tableOf h (now ts) (now cs)) ⌝ }
+    ensures { λ r. ⌜ (r ≡ length (waitingOf (tableOf h (now (ts .entry)) (now (cs .entry))) s)) × (now (out .exit) ≡ written (awaitsOf (tableOf h (now (ts .entry)) (now (cs .entry))) s) (now (out .entry))) ⌝ }
+{
+    let reached = front::ask(front::REACHED, ts, h.n, &s.marks);
+    let vals = evaluate::values(h.evaluation, cs, h.k, &s.links);
+    let mut rows = [0; 256];
+    let found = stand_by(ts, h.n, s.mode, &s.marks, &reached, &vals, &mut rows);
+    let size = found.waiting;
+    if out.len() < size {
+        return size;
     }
-    show_joins(&mut flags, ts, h.n, &s.marks, &reached);
-    Standing {
-        steps,
-        waiting: flags::fill(&flags, h.n, out),
-    }
+    worth::tell(ts, cs, &s.links, &vals, &rows[..size], out);
+    size
 }

@@ -2,7 +2,7 @@
 use Prim.Native.Nat.{ℕ, _<_, _≤_}
 use mathlib.Core.Path.{_≡_, refl, sym, _∙_, ap, ap₂, fun-ext}
 use mathlib.Core.Bool.{Bool, true, false, cond, not, _&&_}
-use mathlib.Core.List.{List}
+use mathlib.Core.List.{List, map}
 use mathlib.Core.Logic.{by-cases}
 use mathlib.Core.Option.{Option, none, some}
 use native.Mathlib.Omega.{arith}
@@ -21,18 +21,21 @@ use Rattle.calculus.specs.Process.{act, out, join}
 use Rattle.calculus.specs.Status.{Value, Links}
 use Rattle.calculus.specs.Places.{Turn, takes, drops, Mode}
 use Rattle.calculus.specs.Steps.{turnOf}
-use Rattle.conditions.specs.Conditions.{value}
-use Rattle.steps.specs.Rows.{Row, NIL, PREFIX, BRANCH, firstOf, secondOf, termBy, term, isJoin}
+use Rattle.conditions.specs.Conditions.{Condition, value}
+use Rattle.conditions.specs.Awaited.{awaited}
+use Rattle.steps.specs.Rows.{Row, NIL, PREFIX, BRANCH, firstOf, secondOf, termBy, term, isJoin, conditionOf}
 use Rattle.steps.specs.Marks.{Marks, remainder}
 use Rattle.steps.specs.InFront.{names, parentOf, rightOf, waiting, waitingStep, leads, inheritedBy, inherited, reached, inFront}
 use Rattle.sheet.specs.Table.{Table, cut, rowAt, evaluationOf, evalIn}
 use Rattle.sheet.specs.Accepted.{WellFormed}
 use Rattle.sheet.proofs.Beyond.{row-same, condition-same}
+use Rattle.worth.specs.Worth.{awaitedAt, worthBy, worthOf, waitByte}
 use Rattle.state.specs.declared.State.{State}
 use Rattle.state.specs.State.{decideOf}
 use Rattle.moves.specs.Steps.{modeOf, marksOf, linksOf, nodes, remainderIn, turnBy, turnAt, kindTurned, kindAt, isSome, hasStep, listedOf, falsified, otherOf, decidedOf, climbBy, idle, climbed, takenOf, droppedOf, steppedBy, steppedOf}
-use Rattle.moves.specs.Standing.{joinInFront, joinsOf}
+use Rattle.moves.specs.Standing.{joinInFront, joinsOf, waitingBy, waitingOf, awaitedOf, awaitsOf}
 use Rattle.moves.specs.Fits.{suits, markOk, held, waitOk, keeps, live, clearRow, clearOk, marksFit, linksFit, waitsFit, clearFit, fitChecks}
+use Rattle.moves.proofs.Standing.{join-below, join-inside, awaits-by}
 
 front-out : (node : ℕ → Row) (μ : Marks) (n r : ℕ) → n ≤ r → inFront node μ n r ≡ false
 unfolding inFront
@@ -185,6 +188,21 @@ module _ (t : Table) (w : WellFormed t) (s : State) where
   pub cut-joins : joinsOf t s ≡ joinsOf (cut t) s
   unfolding joinsOf joinInFront
   cut-joins = listed-same (joinInFront t s) (joinInFront (cut t) s) 0 (t .n) (λ r a b. ap₂ (λ (f : Bool) (N : Row). f && isJoin N) (front-same (t .n) (t .terms) (cut t .terms) same (marksOf s) r) (same r (omega arith)))
+
+  pub cut-waiting : waitingOf t s ≡ waitingOf (cut t) s
+  unfolding waitingOf
+  cut-waiting = ap₂ waitingBy cut-listed cut-joins
+
+  -- what a JOIN row in front waits for: its condition row is below k
+  awaited-same : (r : ℕ) → joinInFront t s r ≡ true → awaitedOf t s r ≡ awaitedOf (cut t) s r
+  unfolding awaitedOf worthOf awaitedAt
+  awaited-same r j =
+      ap (λ (c : Condition). waitByte (worthBy (value (evaluationOf (t .evaluation)) c (linksOf s)) (awaited 64 c (linksOf s)))) (sym (condition-same (t .k) (t .conditions) (conditionOf (nodes t r)) (join-inside t s r j w))) ∙
+      ap (λ (N : Row). waitByte (worthOf (t .evaluation) (cut t .conditions) (conditionOf N) (linksOf s))) (same r (join-below t s r j))
+
+  pub cut-awaits : awaitsOf t s ≡ awaitsOf (cut t) s
+  unfolding awaitsOf
+  cut-awaits = awaits-by t s (awaitedOf (cut t) s) awaited-same ∙ ap (map (awaitedOf (cut t) s)) cut-waiting
 
   stepped-by : (r : ℕ) → r < t .n → (o : Option Turn) → steppedBy t s r o ≡ steppedBy (cut t) s r o
   unfolding steppedBy

@@ -1,31 +1,41 @@
--- HOW A STATE STANDS: the rows that it waits for, and that nothing is left to do where no step is listed and no JOIN is in front. Assumes nothing.
+-- HOW A STATE STANDS: the rows that it waits for, what each waits for, and that nothing is left to do where no step is listed and no JOIN is in front. Assumes nothing.
 use Prim.Native.Nat.{ℕ, _<_, _≤_}
 use mathlib.Core.Path.{_≡_, refl, sym}
 use mathlib.Core.Bool.{true, false, true≢false}
-use mathlib.Core.List.{List, [], _∷_, cons≢nil, List·Memᴰ, List·Memᴰ·not-nil}
-use mathlib.Core.Logic.{inl, inr, ⊎-elim, _↔_}
+use mathlib.Core.List.{List, [], _∷_, map, cons≢nil, List·Memᴰ, List·Memᴰ·head, List·Memᴰ·tail, List·Memᴰ·not-nil}
+use mathlib.Core.Logic.{_⊎_, inl, inr, ⊎-elim, _↔_}
 use native.Mathlib.Omega.{arith}
-use lib.ListN.{length}
+use lib.ListN.{length, length-map}
 use borrow.Author.Tests.{ltb-true}
 use Rattle.laws.specs.Listed.{Rising}
 use Rattle.laws.proofs.Tests.{and-l, and-r, refuted, not-both}
+use Rattle.laws.proofs.Lowest.{lowest-upto}
 use Rattle.laws.proofs.Listed.{listed-has, listed-holds, listed-length, listed-rising, none-listed, some-listed}
 use Rattle.calculus.specs.Process.{Process, nil, prefix, branch, Prefix, act, out, join}
-use Rattle.calculus.specs.Places.{Place, row, here}
-use Rattle.calculus.specs.Steps.{turnOf}
+use Rattle.calculus.specs.Status.{Value, Unset, False, True}
+use Rattle.calculus.specs.Places.{Place, row, here, Mode, plain, cleaning, cleans}
+use Rattle.calculus.specs.Steps.{joinTurn, turnOf}
+use Rattle.conditions.specs.Awaited.{awaited}
+use Rattle.conditions.proofs.Awaited.{unset-awaits}
 use Rattle.steps.specs.Rows.{PREFIX, isJoinPrefix, isJoin, conditionOf}
 use Rattle.steps.specs.InFront.{waiting, reached, inFront}
 use Rattle.steps.proofs.Rows.{join-of}
 use Rattle.steps.proofs.InFront.{front-place, place-front}
-use Rattle.sheet.specs.Table.{Table}
+use Rattle.sheet.specs.Table.{Table, evaluationOf}
 use Rattle.sheet.specs.Accepted.{WellFormed}
+use Rattle.worth.specs.Worth.{awaitedAt, worthBy, worthOf, waitByte}
 use Rattle.state.specs.declared.State.{State}
-use Rattle.moves.specs.Steps.{marksOf, nodes, leftIn, turnBy, turnAt, hasStep, listedOf}
-use Rattle.moves.specs.Standing.{joinInFront, joinsOf, waitingBy, waitingOf, bare}
+use Rattle.moves.specs.Steps.{modeOf, marksOf, linksOf, nodes, leftIn, turnBy, turnAt, isSome, hasStep, listedOf}
+use Rattle.moves.specs.Standing.{joinInFront, joinsOf, waitingBy, waitingOf, awaitedOf, awaitsOf, joinCondition, joinValue, Waits, bare}
 use Rattle.moves.proofs.Allowed.{listed-rows}
 
+-- two functions that agree on a list give the same of it
+map-same : (f g : ℕ → ℕ) (xs : List ℕ) → ((x : ℕ) → List·Memᴰ x xs → f x ≡ g x) → map f xs ≡ map g xs
+map-same f g [] h = refl
+map-same f g (x ∷ xs) h = rw (h x (List·Memᴰ·head refl), map-same f g xs (λ y m. h y (List·Memᴰ·tail m))) refl
+
 module _ (t : Table) (s : State) where
-  join-below : (r : ℕ) → joinInFront t s r ≡ true → r < t .n
+  pub join-below : (r : ℕ) → joinInFront t s r ≡ true → r < t .n
   unfolding joinInFront inFront
   join-below r e = ltb-true r (t .n) (and-l _ (reached (nodes t) (marksOf s) r) (and-l _ (waiting (nodes t r) (marksOf s r)) (and-l _ (isJoin (nodes t r)) e)))
 
@@ -69,6 +79,63 @@ module _ (t : Table) (s : State) where
   pub waiting-rising : Rising (waitingOf t s)
   unfolding joinsOf
   waiting-rising = waiting-cases Rising (λ some i j h g. absurd (omega arith)) (λ none. listed-rising (joinInFront t s) 0 (t .n))
+
+  -- a byte for each row waited for
+  pub awaits-length : length (awaitsOf t s) ≡ length (waitingOf t s)
+  unfolding awaitsOf
+  awaits-length = length-map (waitingOf t s) (awaitedOf t s)
+
+  -- ... by whatever tells it of each
+  pub awaits-by : (f : ℕ → ℕ) → ((r : ℕ) → joinInFront t s r ≡ true → awaitedOf t s r ≡ f r) → awaitsOf t s ≡ map f (waitingOf t s)
+  unfolding awaitsOf
+  awaits-by f h = map-same (awaitedOf t s) f (waitingOf t s) (λ r m. h r (waiting-rows r .0 m .1))
+
+  pub awaited-small : (r : ℕ) → awaitedOf t s r < 256
+  unfolding awaitedOf worthOf awaitedAt awaited
+  awaited-small r = at (joinValue t s r) _ (lowest-upto _ 0 64)
+    where
+      at : (u : Value) (l : ℕ) → l ≤ 64 → waitByte (worthBy u l) < 256
+      at Unset l h = omega arith
+      at False l h = omega arith
+      at True l h = omega arith
+
+-- a JOIN without a turn is unset, or false in a plain state
+no-turn : (u : Value) (m : Mode) → isSome (joinTurn m u) ≡ false → (u ≡ Unset) ⊎ ((u ≡ False) × (m ≡ plain))
+unfolding joinTurn cleans
+no-turn Unset m e = inl refl
+no-turn False plain e = inr (refl, refl)
+no-turn False cleaning e = absurd (true≢false e)
+no-turn True m e = absurd (true≢false e)
+
+module _ (t : Table) (s : State) (r : ℕ) (j : joinInFront t s r ≡ true) where
+  pub join-there : (d : ℕ) × (nodes t r ≡ PREFIX (join (conditionOf (nodes t r))) d)
+  unfolding joinInFront
+  join-there = join-of (nodes t r) (and-r (inFront (nodes t) (marksOf s) (t .n) r) _ j)
+
+  -- its condition row is one of the table's
+  pub join-inside : WellFormed t → conditionOf (nodes t r) < t .k
+  join-inside w = let (d, z) = join-there in w .joins r _ d (join-below t s r j) z
+
+  join-value : hasStep t s r ≡ false → (joinValue t s r ≡ Unset) ⊎ ((joinValue t s r ≡ False) × (modeOf (s .mode) ≡ plain))
+  unfolding hasStep turnAt turnBy turnOf joinInFront
+  join-value e =
+      let f : inFront (nodes t) (marksOf s) (t .n) r ≡ true = and-l _ (isJoin (nodes t r)) j in
+      let (d, z) = join-there in
+      no-turn (joinValue t s r) (modeOf (s .mode)) (rw (f, z) at e)
+
+-- WHAT EACH ROW WAITS FOR: its condition is unset and the byte is the lowest unset link reached from it; or it is false, the byte is 255 and the state is plain.
+pub row-waits : (t : Table) → WellFormed t → (s : State) (r : ℕ) → List·Memᴰ r (waitingOf t s) → Waits t s r (awaitedOf t s r)
+unfolding awaitedOf worthOf awaitedAt
+row-waits t w s r m =
+    let (none, j) = waiting-rows t s r .0 m in
+    let k : conditionOf (nodes t r) < t .k = join-inside t s r j w in
+    ⊎-elim
+    (λ z.
+    let small : (l : ℕ) → _ → l < t .m = λ l e. w .links (conditionOf (nodes t r)) l k e in
+    let a = unset-awaits (joinCondition t r) (linksOf s) (evaluationOf (t .evaluation)) 64 (λ l e. omega (arith, small l e, w .few-links)) z in
+    inl (record { is-unset = z; the-link = rw z a; one-of-m = rw z (small _ (a .reached-there)) }))
+    (λ (z, p). inr (record { is-false = z; no-link = rw z refl; is-plain = p }))
+    (join-value t s r j (no-step t s .0 none r))
 
 -- a process holds no ACT, OUT or JOIN exactly if it has none in front
 bare-place : (P : Process) → (bare P ≡ true) ↔ (Place P → ⊥)

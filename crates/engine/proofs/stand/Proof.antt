@@ -1,7 +1,10 @@
 use mathlib.Core.Path.{_∙_, ap}
 use lib.ListN.{length}
+use denote.Ref.{now}
 use Rattle.laws.specs.Listed.{written}
-use Rattle.engine.proofs.Rows.{steps-known, joins-known, nothing-waits, waits-joins}
+use Rattle.sheet.specs.Table.{tableOf}
+use Rattle.engine.proofs.Known.{Knows}
+use Rattle.engine.proofs.Rows.{steps-from, waiting-from}
 use borrow.Author.Needs.{needs}
 use Rattle.engine.proofs.stand.Statement.{statement}
 use Rattle.engine.proofs.stand.Tie as tie
@@ -12,30 +15,21 @@ ask-requires c κs = search needs
 values-requires : tie.Need-values-requires
 values-requires c κs = search needs
 
-show-steps-requires : tie.Need-show-steps-requires
-show-steps-requires c κs = search needs
-
-count-requires : tie.Need-count-requires
-count-requires c κs = search needs
-
-returns : tie.Need-returns
-returns c = let e = c .before .count .ensures ∙ ap length (steps-known _ _ _ _ (record { seen-shows = c .before .before .before .before .before .before .before .before .before .before .before .before .ask .ensures; vals-known = c .before .before .before .before .before .before .before .before .before .values .ensures }) _ (c .before .before .before .before .before .before .before .before .before .before .before .before .before .before .before .before .before .before .pre) (c .before .before .before .show-steps .ensures)) in (e, nothing-waits _ _ _ e (c .if1 .taken) (c .before .before .before .before .before .before .before .before .before .before .before .before .before .before .before .before .before .before .args .out .now))
-
-show-joins-requires : tie.Need-show-joins-requires
-show-joins-requires c κs = search needs
-
-fill-requires : tie.Need-fill-requires
-fill-requires c κs = c .before .before .before .before .before .before .before .before .before .before .before .before .before .before .before .before .before .before .before .before .before .before .before .before .before .pre .few-terms
+stand-by-requires : tie.Need-stand-by-requires
+stand-by-requires c κs = search needs
 
 same-length : tie.Need-same-length
 same-length c = search needs
 
-returns-2 : tie.Need-returns-2
-returns-2 c =
-    let e = c .before .before .before .before .before .before .before .before .before .before .before .count .ensures ∙ ap length (steps-known _ _ _ _ (record { seen-shows = c .before .before .before .before .before .before .before .before .before .before .before .before .before .before .before .before .before .before .before .before .before .before .ask .ensures; vals-known = c .before .before .before .before .before .before .before .before .before .before .before .before .before .before .before .before .before .before .before .values .ensures }) _ (c .before .before .before .before .before .before .before .before .before .before .before .before .before .before .before .before .before .before .before .before .before .before .before .before .before .before .before .before .pre) (c .before .before .before .before .before .before .before .before .before .before .before .before .before .show-steps .ensures)) in
-    let j = joins-known _ _ _ _ (record { seen-shows = c .before .before .before .before .before .before .before .before .before .before .before .before .before .before .before .before .before .before .before .before .before .before .ask .ensures; vals-known = c .before .before .before .before .before .before .before .before .before .before .before .before .before .before .before .before .before .before .before .values .ensures }) _ (c .before .before .before .before .before .show-joins .ensures) in
-    let w = waits-joins _ _ _ e (c .before .before .before .before .before .before .before .before .before .before .if1 .left) in
-    (e, rw w (c .before .before .fill .ensures .0 ∙ ap length j, c .before .before .fill .ensures .1 ∙ ap (λ xs. written xs (c .before .before .before .before .before .before .before .before .before .before .before .before .before .before .before .before .before .before .before .before .before .before .before .before .before .before .before .before .args .out .now)) j))
+returns : tie.Need-returns
+returns c =
+    let f = c .before .before .stand-by .ensures in
+    let b = c .before .before .before .before .before .before .before .before in
+    let a = b .before .before .before in
+    let p = a .before .before .before .before .before .before in
+    let k : Knows (tableOf (p .args .h) (now (p .args .ts)) (now (p .args .cs))) (p .args .t4) _ _ = record { seen-shows = a .ask .ensures; vals-known = b .values .ensures } in
+    let e = waiting-from _ _ _ _ k (p .pre) in
+    (f .0 ∙ ap length (steps-from _ _ _ _ k (p .pre)), (f .1 .0 ∙ ap length e, f .1 .1 ∙ ap (λ xs. written xs (now (p .args .out))) e))
 
 pub stand-spec : {M : Type 1} → statement M
-stand-spec = tie.close (tie.spec ask-requires values-requires show-steps-requires count-requires returns show-joins-requires fill-requires same-length returns-2)
+stand-spec = tie.close (tie.spec ask-requires values-requires stand-by-requires same-length returns)
