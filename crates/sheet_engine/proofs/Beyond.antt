@@ -17,20 +17,20 @@ use Rattle.sheet.specs.Accepted.{WellFormed}
 use Rattle.sheet.proofs.Accepted.{meets, well-formed}
 use Rattle.sheet.proofs.Beyond.{cut-checked}
 use Rattle.codec.specs.Answers.{writeChecks, writeOf, writtenOf}
+use Rattle.codec.specs.declared.SizeAnswer.{SizeAnswer}
 use Rattle.codec.specs.declared.SizeAnswer.the-variants as size
 use Rattle.state.specs.declared.State.{State}
 use Rattle.state.specs.declared.StepKind.the-variants as kind
 use Rattle.state.specs.State.{freshOf}
-use Rattle.moves.specs.Steps.{kindAt, listedOf}
-use Rattle.moves.specs.Standing.{joinsOf, waitingBy, waitingOf}
+use Rattle.moves.specs.Steps.{kindAt}
 use Rattle.moves.specs.Fits.{modeCheck, fitChecks}
-use Rattle.moves.proofs.Beyond.{cut-fits, cut-kind, cut-listed, cut-joins, cut-stepped}
+use Rattle.moves.proofs.Beyond.{cut-fits, cut-kind, cut-listed, cut-joins, cut-waiting, cut-awaits, cut-stepped}
 use Rattle.engine.specs.ByValue.{takenAnswer}
 use Rattle.verdict.specs.Verdict.{verdictOf}
 use Rattle.verdict.proofs.Beyond.{cut-verdict}
 use Rattle.sheet_engine.specs.declared.StandingAnswer.the-variants as standing
 use Rattle.sheet_engine.specs.declared.VerdictAnswer.the-variants.{Refused}
-use Rattle.sheet_engine.specs.Answers.{given, verdictAnswer, started, notStarted, startAnswer, callChecks, listChecks, listAnswer, listBuffer, standingBy, standingOf, standingChecks, standingAnswer, standingBuffer, kindAnswer, notTaken, stepAnswer}
+use Rattle.sheet_engine.specs.Answers.{given, verdictAnswer, started, notStarted, startAnswer, callChecks, listAnswer, listBuffer, standingBy, standingOf, standingAnswer, standingBuffer, waitsAnswer, waitsBuffer, kindAnswer, notTaken, stepAnswer}
 
 formed : (t : Table) → AllHold (tableChecks t) → WellFormed t
 unfolding refusalOf
@@ -86,37 +86,41 @@ module _ {A : Type 0} (answer : ℕ → ℕ → A) (good good′ : A) (t : Table
       (cut-checked answer (checked answer good′ (modeCheck (s .mode) ∷ fitChecks (cut t) s)) t ∙
       sym (checked-append answer good′ (tableChecks (cut t)) (modeCheck (s .mode) ∷ fitChecks (cut t) s))))
 
--- listing
-list-cut : {A : Type 0} (answer : ℕ → ℕ → A) (good : List ℕ → A) (t : Table) (s : State) (lent : ℕ) → checked answer (good (listedOf t s)) (listChecks t s lent) ≡ checked answer (good (listedOf (cut t) s)) (listChecks (cut t) s lent)
-list-cut answer good t s lent =
-    checked-append answer (good (listedOf t s)) (callChecks t s) (room (length (listedOf t s)) lent ∷ []) ∙
-    (call-cut answer _ _ t s (λ w. ap (λ (l : List ℕ). checked answer (good l) (room (length l) lent ∷ [])) (cut-listed t w s)) ∙
-    sym (checked-append answer (good (listedOf (cut t) s)) (callChecks (cut t) s) (room (length (listedOf (cut t) s)) lent ∷ [])))
-
--- standing
-stand-cut : {A : Type 0} (answer : ℕ → ℕ → A) (good : List ℕ → List ℕ → A) (t : Table) (s : State) (lent : ℕ) → checked answer (good (listedOf t s) (joinsOf t s)) (standingChecks t s lent) ≡ checked answer (good (listedOf (cut t) s) (joinsOf (cut t) s)) (standingChecks (cut t) s lent)
-unfolding waitingOf
-stand-cut answer good t s lent =
-    checked-append answer (good (listedOf t s) (joinsOf t s)) (callChecks t s) (room (length (waitingOf t s)) lent ∷ []) ∙
-    (call-cut answer _ _ t s (λ w. ap₂ (λ (l j : List ℕ). checked answer (good l j) (room (length (waitingBy l j)) lent ∷ [])) (cut-listed t w s) (cut-joins t w s)) ∙
-    sym (checked-append answer (good (listedOf (cut t) s) (joinsOf (cut t) s)) (callChecks (cut t) s) (room (length (waitingOf (cut t) s)) lent ∷ [])))
+-- ... that writes rows to a lent buffer
+module _ {A : Type 0} (answer : ℕ → ℕ → A) (good good′ : A) (xs xs′ : List ℕ) (t : Table) (s : State) (same : WellFormed t → (good ≡ good′) × (xs ≡ xs′)) where
+  rows-cut : (lent : ℕ) → checked answer good (callChecks t s ++ (room (length xs) lent ∷ [])) ≡ checked answer good′ (callChecks (cut t) s ++ (room (length xs′) lent ∷ []))
+  rows-cut lent =
+      checked-append answer good (callChecks t s) (room (length xs) lent ∷ []) ∙
+      (call-cut answer _ _ t s (λ w. ap₂ (λ (g : A) (l : List ℕ). checked answer g (room (length l) lent ∷ [])) (same w .0) (same w .1)) ∙
+      sym (checked-append answer good′ (callChecks (cut t) s) (room (length xs′) lent ∷ [])))
 
 module _ (t : Table) (s : State) where
+  abbrev sized : List ℕ → SizeAnswer
+  sized l = size.Size (length l)
+
   pub cut-list-answer : (lent : ℕ) → listAnswer t s lent ≡ listAnswer (cut t) s lent
   unfolding listAnswer
-  cut-list-answer lent = list-cut size.Refused (λ l. size.Size (length l)) t s lent
+  cut-list-answer lent = rows-cut size.Refused _ _ _ _ t s (λ w. (ap sized (cut-listed t w s), cut-listed t w s)) lent
 
   pub cut-list-buffer : (lent : List ℕ) → listBuffer t s lent ≡ listBuffer (cut t) s lent
   unfolding listBuffer
-  cut-list-buffer lent = list-cut (λ number place. lent) (λ l. written l lent) t s (length lent)
+  cut-list-buffer lent = rows-cut (λ number place. lent) _ _ _ _ t s (λ w. (ap (λ l. written l lent) (cut-listed t w s), cut-listed t w s)) (length lent)
 
   pub cut-standing-answer : (lent : ℕ) → standingAnswer t s lent ≡ standingAnswer (cut t) s lent
   unfolding standingAnswer standingOf
-  cut-standing-answer lent = stand-cut standing.Refused standingBy t s lent
+  cut-standing-answer lent = rows-cut standing.Refused _ _ _ _ t s (λ w. (ap₂ standingBy (cut-listed t w s) (cut-joins t w s), cut-waiting t w s)) lent
 
   pub cut-standing-buffer : (lent : List ℕ) → standingBuffer t s lent ≡ standingBuffer (cut t) s lent
-  unfolding standingBuffer waitingOf
-  cut-standing-buffer lent = stand-cut (λ number place. lent) (λ xs js. written (waitingBy xs js) lent) t s (length lent)
+  unfolding standingBuffer
+  cut-standing-buffer lent = rows-cut (λ number place. lent) _ _ _ _ t s (λ w. (ap (λ l. written l lent) (cut-waiting t w s), cut-waiting t w s)) (length lent)
+
+  pub cut-waits-answer : (lent : ℕ) → waitsAnswer t s lent ≡ waitsAnswer (cut t) s lent
+  unfolding waitsAnswer
+  cut-waits-answer lent = rows-cut size.Refused _ _ _ _ t s (λ w. (ap sized (cut-waiting t w s), cut-waiting t w s)) lent
+
+  pub cut-waits-buffer : (lent : List ℕ) → waitsBuffer t s lent ≡ waitsBuffer (cut t) s lent
+  unfolding waitsBuffer
+  cut-waits-buffer lent = rows-cut (λ number place. lent) _ _ _ _ t s (λ w. (ap (λ l. written l lent) (cut-awaits t w s), cut-waiting t w s)) (length lent)
 
   pub cut-kind-answer : (row : ℕ) → kindAnswer t s row ≡ kindAnswer (cut t) s row
   unfolding kindAnswer

@@ -29,8 +29,9 @@ use Rattle.state.specs.declared.State.{State}
 use Rattle.state.specs.declared.StepKind.{StepKind}
 use Rattle.state.specs.declared.StepKind.the-variants as kind
 use Rattle.moves.specs.Steps.{nodes, turnAt, kindTurned, kindAt, isSome, hasStep, listedOf, steppedOf}
-use Rattle.moves.specs.Standing.{waitingOf}
+use Rattle.moves.specs.Standing.{waitingOf, awaitsOf}
 use Rattle.moves.specs.Fits.{modeCheck, fitChecks}
+use Rattle.moves.proofs.Standing.{awaits-length}
 use Rattle.fitting.specs.Checks.{stateChecks}
 use Rattle.fitting.proofs.Fitted.{state-checks}
 use Rattle.engine.specs.declared.Stepped.{Stepped}
@@ -38,7 +39,7 @@ use Rattle.engine.specs.ByValue.{takenAnswer}
 use Rattle.engine.proofs.Known.{kind-step, answer-refused}
 use Rattle.sheet_engine.specs.declared.StandingAnswer.{StandingAnswer}
 use Rattle.sheet_engine.specs.declared.StandingAnswer.the-variants as standing
-use Rattle.sheet_engine.specs.Answers.{callChecks, listAnswer, listBuffer, standingOf, standingAnswer, standingBuffer, kindAnswer, notTaken, stepAnswer}
+use Rattle.sheet_engine.specs.Answers.{callChecks, listAnswer, listBuffer, standingOf, standingAnswer, standingBuffer, waitsAnswer, waitsBuffer, kindAnswer, notTaken, stepAnswer}
 use Rattle.sheet_engine.specs.Values.{rowCheck, rowChecks, wasTaken}
 
 -- where none of two lists of checks fails, none of the first does
@@ -116,22 +117,37 @@ module _ (t : Table) (s : State) (r : Refusal) (told : r ≡ checked refuse (ref
         g ∙ (one-place-holds (λ number place. lent) (written xs lent) last [] refl (le-leb (length xs) (length lent) h) ∙ after (λ number place. lent) (written xs lent) last e),
       )
 
+  -- ... and their number is the answer
+  module _ (xs lent : List ℕ) where
+    abbrev Sizes : SizeAnswer → List ℕ → Type 0
+    Sizes = Told xs lent size.Refused (size.Size (length xs))
+
+    size-refused : (r .number ≡ 0 → ⊥) → Sizes (size.Refused (r .number) (r .place)) lent
+    size-refused h = rows-refused xs lent size.Refused (size.Size (length xs)) h
+
+    module _ (out : List ℕ) (n : ℕ) (e : r .number ≡ 0) (f : n ≡ length xs) (g : out ≡ written xs lent) where
+      size-short : length lent < n → Sizes (size.Refused 12 n) out
+      size-short h = rw f (rows-short xs lent size.Refused (size.Size (length xs)) e out g (omega arith))
+
+      size-given : n ≤ length lent → Sizes (size.Size n) out
+      size-given h = rw f (rows-given xs lent size.Refused (size.Size (length xs)) e out g (omega arith))
+
   -- listing
   abbrev Lists : List ℕ → SizeAnswer → List ℕ → Type 0
   Lists lent a out = (a ≡ listAnswer t s (length lent)) × (out ≡ listBuffer t s lent)
 
   pub list-refused : (lent : List ℕ) → (r .number ≡ 0 → ⊥) → Lists lent (size.Refused (r .number) (r .place)) lent
   unfolding listAnswer listBuffer
-  list-refused lent h = rows-refused (listedOf t s) lent size.Refused (size.Size (length (listedOf t s))) h
+  list-refused lent h = size-refused (listedOf t s) lent h
 
   module _ (lent out : List ℕ) (n : ℕ) (e : r .number ≡ 0) (f : n ≡ length (listedOf t s)) (g : out ≡ written (listedOf t s) lent) where
     pub list-short : length lent < n → Lists lent (size.Refused 12 n) out
     unfolding listAnswer listBuffer
-    list-short h = rw f (rows-short (listedOf t s) lent size.Refused (size.Size (length (listedOf t s))) e out g (omega arith))
+    list-short h = size-short (listedOf t s) lent out n e f g h
 
     pub list-given : n ≤ length lent → Lists lent (size.Size n) out
     unfolding listAnswer listBuffer
-    list-given h = rw f (rows-given (listedOf t s) lent size.Refused (size.Size (length (listedOf t s))) e out g (omega arith))
+    list-given h = size-given (listedOf t s) lent out n e f g h
 
   -- standing
   abbrev Stands : List ℕ → StandingAnswer → List ℕ → Type 0
@@ -149,6 +165,23 @@ module _ (t : Table) (s : State) (r : Refusal) (told : r ≡ checked refuse (ref
     pub stand-given : n ≤ length lent → (a : StandingAnswer) → a ≡ standingOf t s → Stands lent a out
     unfolding standingAnswer standingBuffer
     stand-given h a q = rw q (rows-given (waitingOf t s) lent standing.Refused (standingOf t s) e out g (omega arith))
+
+  -- what the rows wait for: a byte for each
+  abbrev Tells : List ℕ → SizeAnswer → List ℕ → Type 0
+  Tells lent a out = (a ≡ waitsAnswer t s (length lent)) × (out ≡ waitsBuffer t s lent)
+
+  pub waits-refused : (lent : List ℕ) → (r .number ≡ 0 → ⊥) → Tells lent (size.Refused (r .number) (r .place)) lent
+  unfolding waitsAnswer waitsBuffer
+  waits-refused lent h = rw (← awaits-length t s) (size-refused (awaitsOf t s) lent h)
+
+  module _ (lent out : List ℕ) (n : ℕ) (e : r .number ≡ 0) (f : n ≡ length (waitingOf t s)) (g : out ≡ written (awaitsOf t s) lent) where
+    pub waits-short : length lent < n → Tells lent (size.Refused 12 n) out
+    unfolding waitsAnswer waitsBuffer
+    waits-short h = rw (← awaits-length t s) (size-short (awaitsOf t s) lent out n e (f ∙ sym (awaits-length t s)) g h)
+
+    pub waits-given : n ≤ length lent → Tells lent (size.Size n) out
+    unfolding waitsAnswer waitsBuffer
+    waits-given h = rw (← awaits-length t s) (size-given (awaitsOf t s) lent out n e (f ∙ sym (awaits-length t s)) g h)
 
 -- an accepted call's table is well formed
 pub call-formed : (t : Table) (s : State) (r : Refusal) → r ≡ checked refuse (refuse 0 0) (callChecks t s) → r .number ≡ 0 → WellFormed t

@@ -49,6 +49,9 @@ use Rattle.sheet_engine.proofs.list_steps.Kinds as list-steps-kinds
 use Rattle.sheet_engine.proofs.standing as standing
 use Rattle.sheet_engine.proofs.standing.Reads as standing-reads
 use Rattle.sheet_engine.proofs.standing.Kinds as standing-kinds
+use Rattle.sheet_engine.proofs.waits_for as waits-for
+use Rattle.sheet_engine.proofs.waits_for.Reads as waits-for-reads
+use Rattle.sheet_engine.proofs.waits_for.Kinds as waits-for-kinds
 use Rattle.sheet_engine.proofs.step_in_place as step-in-place
 
 pub read-sheet-one : (κs : Lfts 1) (a : ArgsD read-sheet.signature κs) (z z′ : AtExit (endedOf 1 read-sheet-kinds.ps read-sheet-kinds.r) κs) (r r′ : ResD read-sheet.signature κs) → read-sheet-reads.Post κs a r z → read-sheet-reads.Post κs a r′ z′ → r ≡ r′
@@ -87,6 +90,9 @@ list-steps-one κs a z z′ r r′ p q = (p .0 .0 ∙ sym (q .0 .0), p .0 .1 ∙
 
 pub standing-one : (κs : Lfts 3) (a : ArgsD standing.signature κs) (z z′ : AtExit (endedOf 3 standing-kinds.ps standing-kinds.r) κs) (r r′ : ResD standing.signature κs) → standing-reads.Post κs a r z → standing-reads.Post κs a r′ z′ → (r ≡ r′) × (now (z .1 .1 .1 .1 .0) ≡ now (z′ .1 .1 .1 .1 .0))
 standing-one κs a z z′ r r′ p q = (p .0 .0 ∙ sym (q .0 .0), p .0 .1 ∙ sym (q .0 .1))
+
+pub waits-for-one : (κs : Lfts 3) (a : ArgsD waits-for.signature κs) (z z′ : AtExit (endedOf 3 waits-for-kinds.ps waits-for-kinds.r) κs) (r r′ : ResD waits-for.signature κs) → waits-for-reads.Post κs a r z → waits-for-reads.Post κs a r′ z′ → (r ≡ r′) × (now (z .1 .1 .1 .1 .0) ≡ now (z′ .1 .1 .1 .1 .0))
+waits-for-one κs a z z′ r r′ p q = (p .0 .0 ∙ sym (q .0 .0), p .0 .1 ∙ sym (q .0 .1))
 
 -- ... and no second content of the caller's state record: said in the logic of the contract, at every model
 module _ {M : Type 1} (𝓤 : URA M) (H : Heap 𝓤) (A : Atoms 𝓤) (at-mem : Memory → SProp 𝓤) (run : Routine → Fun 𝓤) (κs : Lfts 3) (a : Args step-in-place.signature κs) where

@@ -27,17 +27,19 @@ use Rattle.sheet.specs.Rules.{termRule, termOk, refuse, tableChecks}
 use Rattle.sheet.specs.Sheet.{sizeOf, headOf, sheetChecks}
 use Rattle.sheet.proofs.Refusals.{without, refused-by, accepted-by, one-place-fails, one-place-holds}
 use Rattle.codec.specs.declared.SheetAnswer.the-variants as sheet
+use Rattle.codec.specs.declared.SizeAnswer.{SizeAnswer}
 use Rattle.codec.specs.declared.SizeAnswer.the-variants as size
 use Rattle.codec.specs.Answers.{readOf, writeChecks, writeOf}
 use Rattle.state.specs.declared.State.{State}
 use Rattle.state.specs.declared.StepKind.the-variants as kind
 use Rattle.moves.specs.Steps.{modeOf, marksOf, linksOf, nodes, turnBy, turnAt, kindOf, kindBy, kindTurned, kindAt, isSome, hasStep, listedOf}
+use Rattle.moves.specs.Standing.{waitingOf}
 use Rattle.engine.specs.declared.Stepped.{Stepped}
 use Rattle.engine.specs.ByValue.{takenAnswer}
 use Rattle.verdict.specs.Verdict.{verdictOf}
 use Rattle.sheet_engine.specs.declared.VerdictAnswer.the-variants.{Refused}
 use Rattle.sheet_engine.specs.declared.StandingAnswer.the-variants as standing
-use Rattle.sheet_engine.specs.Answers.{given, verdictAnswer, callChecks, listChecks, listAnswer, standingOf, standingChecks, standingAnswer, kindAnswer, notTaken, stepAnswer}
+use Rattle.sheet_engine.specs.Answers.{given, verdictAnswer, callChecks, listChecks, listAnswer, standingOf, standingChecks, standingAnswer, waitsAnswer, kindAnswer, notTaken, stepAnswer}
 use Rattle.sheet_engine.specs.Values.{VerdictValues, verdictValues, SheetValues, sheetValues, SizeValues, sizeValues, StandingValues, standingValues, StepValues, stepValues, shownBy, shown, rowCheck, rowChecks, Answers}
 use Rattle.sheet_engine.proofs.Promises.{given-unrefused}
 use Rattle.sheet_engine.proofs.Steps.{no-kind}
@@ -63,14 +65,29 @@ module _ {A : Type 0} (number : A → ℕ) (refused : ℕ → ℕ → A) (good :
     refusal = λ h. sym (refused-by refused good cs some-number (λ z. h (ap number (sym (accepted-by refused good cs some-number z)) ∙ zero)));
   }
 
--- reading, writing, listing
+-- reading
 pub read-answers : (s : List ℕ) → Answers (λ (v : SheetValues). v .refusal) (λ n p. sheetValues (sheet.Refused n p)) (sheetValues (sheet.Sheet (headOf s))) (sheetChecks s) (sheetValues (readOf s))
 unfolding readOf without
 read-answers s = rw (checked-map sheetValues sheet.Refused (sheet.Sheet (headOf s)) (sheetChecks s)) (answers _ _ _ (λ n p. refl) refl (sheetChecks s) refl)
 
-pub write-answers : (h : Head) (ts cs : List ℕ) (lent : ℕ) → Answers (λ (v : SizeValues). v .refusal) (λ n p. sizeValues (size.Refused n p)) (sizeValues (size.Size (sizeOf h))) (writeChecks h ts cs lent) (sizeValues (writeOf h ts cs lent))
+-- writing, listing, what the rows wait for
+abbrev SizeAnswers : ℕ → List Check → SizeAnswer → Type 0
+SizeAnswers n cs a = Answers (λ (v : SizeValues). v .refusal) (λ n p. sizeValues (size.Refused n p)) (sizeValues (size.Size n)) cs (sizeValues a)
+
+size-answers : (n : ℕ) (cs : List Check) → without 0 cs ≡ true → SizeAnswers n cs (checked size.Refused (size.Size n) cs)
+size-answers n cs some-number = rw (checked-map sizeValues size.Refused (size.Size n) cs) (answers _ _ _ (λ n p. refl) refl cs some-number)
+
+pub write-answers : (h : Head) (ts cs : List ℕ) (lent : ℕ) → SizeAnswers (sizeOf h) (writeChecks h ts cs lent) (writeOf h ts cs lent)
 unfolding writeOf without
-write-answers h ts cs lent = rw (checked-map sizeValues size.Refused (size.Size (sizeOf h)) (writeChecks h ts cs lent)) (answers _ _ _ (λ n p. refl) refl (writeChecks h ts cs lent) refl)
+write-answers h ts cs lent = size-answers (sizeOf h) (writeChecks h ts cs lent) refl
+
+pub list-answers : (t : Table) (s : State) (lent : ℕ) → SizeAnswers (length (listedOf t s)) (listChecks t s lent) (listAnswer t s lent)
+unfolding listAnswer without
+list-answers t s lent = size-answers (length (listedOf t s)) (listChecks t s lent) refl
+
+pub waits-answers : (t : Table) (s : State) (lent : ℕ) → SizeAnswers (length (waitingOf t s)) (standingChecks t s lent) (waitsAnswer t s lent)
+unfolding waitsAnswer without
+waits-answers t s lent = size-answers (length (waitingOf t s)) (standingChecks t s lent) refl
 
 pub verdict-answers : (t : Table) → Answers (λ (v : VerdictValues). v .refusal) (λ n p. verdictValues (Refused n p)) (verdictValues (given (verdictOf t))) (tableChecks t) (verdictValues (verdictAnswer t))
 unfolding verdictAnswer without
@@ -79,10 +96,6 @@ verdict-answers t = rw (checked-map verdictValues Refused (given (verdictOf t)) 
 pub standing-answers : (t : Table) (s : State) (lent : ℕ) → Answers (λ (v : StandingValues). v .refusal) (λ n p. standingValues (standing.Refused n p)) (standingValues (standingOf t s)) (standingChecks t s lent) (standingValues (standingAnswer t s lent))
 unfolding standingAnswer without
 standing-answers t s lent = rw (checked-map standingValues standing.Refused (standingOf t s) (standingChecks t s lent)) (answers _ _ _ (λ n p. refl) (stands-rows t s .0) (standingChecks t s lent) refl)
-
-pub list-answers : (t : Table) (s : State) (lent : ℕ) → Answers (λ (v : SizeValues). v .refusal) (λ n p. sizeValues (size.Refused n p)) (sizeValues (size.Size (length (listedOf t s)))) (listChecks t s lent) (sizeValues (listAnswer t s lent))
-unfolding listAnswer without
-list-answers t s lent = rw (checked-map sizeValues size.Refused (size.Size (length (listedOf t s))) (listChecks t s lent)) (answers _ _ _ (λ n p. refl) refl (listChecks t s lent) refl)
 
 -- a step: its values are the bytes of its row
 abbrev stepRefused : ℕ → ℕ → StepValues

@@ -15,7 +15,7 @@ use Rattle.codec.specs.declared.SizeAnswer.the-variants as size
 use Rattle.state.specs.declared.StepKind.{StepKind}
 use Rattle.state.specs.declared.StepKind.the-variants as kind
 use Rattle.moves.specs.Steps.{listedOf, kindAt}
-use Rattle.moves.specs.Standing.{joinsOf, waitingOf}
+use Rattle.moves.specs.Standing.{joinsOf, waitingOf, awaitsOf}
 use Rattle.moves.specs.Fits.{modeCheck, fitChecks}
 use Rattle.engine.specs.declared.Stepped.{Stepped}
 use Rattle.engine.specs.ByValue.{takenAnswer}
@@ -83,6 +83,13 @@ standingAnswer t s lent = checked standing.Refused (standingOf t s) (standingChe
 
 unfoldable pub standingBuffer : Table → State → List ℕ → List ℕ
 standingBuffer t s lent = checked (λ number place. lent) (written (waitingOf t s) lent) (standingChecks t s (length lent))
+
+-- Document 02, request 5: for each of these rows, in their order, its link, or 255 where its condition is false
+unfoldable pub waitsAnswer : Table → State → ℕ → SizeAnswer
+waitsAnswer t s lent = checked size.Refused (size.Size (length (waitingOf t s))) (standingChecks t s lent)
+
+unfoldable pub waitsBuffer : Table → State → List ℕ → List ℕ
+waitsBuffer t s lent = checked (λ number place. lent) (written (awaitsOf t s) lent) (standingChecks t s (length lent))
 
 -- the step of a row: 11 is its kind where it has none
 unfoldable pub kindAnswer : Table → State → ℕ → StepKind

@@ -7,7 +7,7 @@ ghost use Rattle.sheet.specs.Rules.{refuse, refusalOf};
 ghost use Rattle.sheet.specs.Sheet.{settingsOf, termsOf, conditionsOf};
 ghost use Rattle.moves.specs.Steps.{Sized};
 ghost use Rattle.codec.specs.Answers.{Bytes, readOf, partOf, writeOf, writtenOf};
-ghost use Rattle.sheet_engine.specs.Answers.{verdictAnswer, startAnswer, callChecks, listAnswer, listBuffer, standingAnswer, standingBuffer, kindAnswer, stepAnswer};
+ghost use Rattle.sheet_engine.specs.Answers.{verdictAnswer, startAnswer, callChecks, listAnswer, listBuffer, standingAnswer, standingBuffer, waitsAnswer, waitsBuffer, kindAnswer, stepAnswer};
 use codec::SheetAnswer;
 use codec::SizeAnswer;
 use engine::Stepped;
@@ -184,6 +184,25 @@ pub fn standing(s: State, h: Head, ts: &[u8], cs: &[u8], out: &mut [u8]) -> Stan
         return StandingAnswer::Finished;
     }
     StandingAnswer::Waiting(waiting)
+}
+
+// What the rows wait for that `standing` tells, a byte for each, in their order, to a lent buffer, and their number: the link, or 255 where the condition is false; 12 with the size that is needed.
+pub fn waits_for(s: State, h: Head, ts: &[u8], cs: &[u8], out: &mut [u8]) -> SizeAnswer
+    ensures { λ r. ⌜ (r ≡ waitsAnswer (tableOf h (now (ts .entry)) (now (cs .entry))) s (length (now (out .entry)))) × (now (out .exit) ≡ waitsBuffer (tableOf h (now (ts .entry)) (now (cs .entry))) s (now (out .entry))) ⌝ }
+    ensures sized { λ r. ⌜ Sized s ⌝ }
+{
+    let refusal = judge_state(s, h, ts, cs);
+    let number = refusal.number;
+    let place = refusal.place;
+    if number != 0 {
+        return SizeAnswer::Refused(number, place);
+    }
+    let room = out.len();
+    let bytes = engine::wait(h, ts, cs, s, out);
+    if room < bytes {
+        return SizeAnswer::Refused(12, bytes);
+    }
+    SizeAnswer::Size(bytes)
 }
 
 // The step of a row; 11 and the row where it has none.
