@@ -24,13 +24,13 @@ use Rattle.state.specs.declared.State.{State}
 use Rattle.state.specs.declared.StepKind.{StepKind}
 use Rattle.state.specs.declared.StepKind.the-variants.{Clean}
 use Rattle.moves.specs.Steps.{marksOf, Sized, nodes, turnAt, kindTurned, kindAt, hasStep, listedOf, steppedOf}
-use Rattle.moves.specs.Standing.{waitingOf}
+use Rattle.moves.specs.Standing.{waitingOf, awaitsOf}
 use Rattle.moves.specs.Runs.{Taken}
 use Rattle.moves.specs.Runs.{Run as Steps, done as ended, take as stepping, taken as stepsTaken, last as lastState}
 use Rattle.moves.proofs.Allowed.{listed-rows}
 use Rattle.moves.proofs.Moves.{has-turn, takes-kind, step-kept}
 use Rattle.moves.proofs.Fits.{fits-step}
-use Rattle.moves.proofs.Standing.{waiting-few}
+use Rattle.moves.proofs.Standing.{waiting-few, awaits-length}
 use Rattle.moves.proofs.Kept.{run-length}
 use Rattle.fitting.specs.Checks.{stateChecks}
 use Rattle.fitting.proofs.Fitted.{fits-accepted, accepts-fitting}
@@ -38,11 +38,11 @@ use Rattle.engine.specs.declared.Stepped.{Stepped}
 use Rattle.engine.specs.ByValue.{takenAnswer}
 use Rattle.engine.proofs.Known.{kind-step}
 use Rattle.sheet_engine.specs.declared.StandingAnswer.{StandingAnswer}
-use Rattle.sheet_engine.specs.Answers.{listAnswer, callChecks, listBuffer, standingOf, standingAnswer, standingBuffer, kindAnswer, stepAnswer}
+use Rattle.sheet_engine.specs.Answers.{listAnswer, callChecks, listBuffer, standingOf, standingAnswer, standingBuffer, waitsAnswer, waitsBuffer, kindAnswer, stepAnswer}
 use Rattle.sheet_engine.specs.Values.{sizeValues, standingValues, stepValues}
-use Rattle.sheet_engine.proofs.Steps.{table-first, state-then, kind-refused, kind-given, step-refused, step-given, list-refused, list-given, stand-refused, stand-given}
+use Rattle.sheet_engine.proofs.Steps.{table-first, state-then, kind-refused, kind-given, step-refused, step-given, list-refused, list-given, stand-refused, stand-given, waits-refused, waits-given}
 use Rattle.sheet_engine.proofs.Stands.{stands-rows}
-use Rattle.promises.specs.Calls.{Accepted, countOf, listedIn, listedRows, waitingIn, waitingRows, Run, done, more, taken, last}
+use Rattle.promises.specs.Calls.{Accepted, countOf, listedIn, listedRows, waitingIn, waitingRows, awaitedIn, awaitedBytes, Run, done, more, taken, last}
 
 -- what acceptance of the table gives
 pub formed : {t : Table} {s : State} → Accepted t s → WellFormed t
@@ -121,6 +121,22 @@ module _ (t : Table) (s : State) where
     pub waiting-are : waitingRows t s ≡ waitingOf t s
     waiting-are = waiting-is (replicate 256 0) few-waiting
 
+    -- what they wait for, one byte each and no more
+    pub waits-is : (lent : List ℕ) → length (awaitsOf t s) ≤ length lent → (waitsAnswer t s (length lent) ≡ Size (length (awaitsOf t s))) × (waitsBuffer t s lent ≡ awaitsOf t s ++ drop (length (awaitsOf t s)) lent)
+    waits-is lent h =
+        let (c, b) = waits-given t s refusal refl lent (awaitsOf t s ++ drop (length (awaitsOf t s)) lent) (length (awaitsOf t s)) e (awaits-length t s) (written-fits (awaitsOf t s) lent _ h refl) h in
+        (sym c, sym b)
+
+    pub awaited-is : (lent : List ℕ) → length (awaitsOf t s) ≤ length lent → awaitedIn t s lent ≡ awaitsOf t s
+    unfolding awaitedIn
+    awaited-is lent h = let (c, b) = waits-is lent h in ap₂ (λ (n : SizeAnswer) (out : List ℕ). take (countOf n) out) c b ∙ take-at (awaitsOf t s) _ _ refl
+
+    pub few-awaited : length (awaitsOf t s) ≤ 256
+    few-awaited = omega (arith, awaits-length t s, few-waiting)
+
+    pub awaited-are : awaitedBytes t s ≡ awaitsOf t s
+    awaited-are = awaited-is (replicate 256 0) few-awaited
+
     pub row-listed : (r : ℕ) → List·Memᴰ r (listedRows t s) ↔ (hasStep t s r ≡ true)
     row-listed r = subst (λ (l : List ℕ). List·Memᴰ r l ↔ (hasStep t s r ≡ true)) (sym rows-are) (listed-rows t s r)
 
@@ -154,6 +170,10 @@ module _ (t : Table) (s : State) where
     unfolding waitingIn
     none-waiting lent = ap (λ (a : StandingAnswer). take (standingValues a .rows) (standingBuffer t s lent)) (sym (stand-refused t s refusal refl lent h .0))
 
+    none-awaited : (lent : List ℕ) → awaitedIn t s lent ≡ []
+    unfolding awaitedIn
+    none-awaited lent = ap (λ (n : SizeAnswer). take (countOf n) (waitsBuffer t s lent)) (sym (waits-refused t s refusal refl lent h .0))
+
     none-taken : (r : ℕ) → stepAnswer t s r .ok ≡ false
     none-taken r = ap (λ (k : Stepped). k .ok) (sym (step-refused t s refusal refl r h))
 
@@ -180,6 +200,9 @@ module _ (t : Table) (s : State) where
   pub waiting-any : (lent : List ℕ) → length (waitingRows t s) ≤ length lent → waitingIn t s lent ≡ waitingRows t s
   waiting-any = read-any (waitingIn t s) (waitingOf t s) waiting-is few-waiting none-waiting
 
+  pub awaited-any : (lent : List ℕ) → length (awaitedBytes t s) ≤ length lent → awaitedIn t s lent ≡ awaitedBytes t s
+  awaited-any = read-any (awaitedIn t s) (awaitsOf t s) awaited-is few-awaited none-awaited
+
   pub ok-listed : (r : ℕ) → (stepAnswer t s r .ok ≡ true) ↔ List·Memᴰ r (listedRows t s)
   ok-listed r =
       by-cases (ℕ-discrete (refusal .number) 0)
@@ -196,6 +219,9 @@ module _ (t : Table) (s : State) where
 
     pub standing-unrefused : (lent : List ℕ) → standingValues (standingAnswer t s (length lent)) .refusal ≡ 0 → Accepted t s
     standing-unrefused lent = told _ (λ h. ap (λ (a : StandingAnswer). standingValues a .refusal) (stand-refused t s refusal refl lent h .0))
+
+    pub waits-unrefused : (lent : List ℕ) → sizeValues (waitsAnswer t s (length lent)) .refusal ≡ 0 → Accepted t s
+    waits-unrefused lent = told _ (λ h. ap (λ (n : SizeAnswer). sizeValues n .refusal) (waits-refused t s refusal refl lent h .0))
 
     pub kind-unrefused : (r : ℕ) → stepValues (kindAnswer t s r) .refusal ≡ 0 → Accepted t s
     kind-unrefused r = told _ (λ h. ap (λ (k : StepKind). stepValues k .refusal) (kind-refused t s refusal refl r h))

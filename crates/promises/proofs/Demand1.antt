@@ -24,6 +24,7 @@ use Rattle.sheet_engine.proofs.give_verdict as give-verdict
 use Rattle.sheet_engine.proofs.start as start
 use Rattle.sheet_engine.proofs.list_steps as list-steps
 use Rattle.sheet_engine.proofs.standing as standing
+use Rattle.sheet_engine.proofs.waits_for as waits-for
 use Rattle.sheet_engine.proofs.step_kind as step-kind
 use Rattle.sheet_engine.proofs.take_step as take-step
 use Rattle.sheet_engine.proofs.step_in_place as step-in-place
@@ -42,20 +43,20 @@ use Rattle.state.specs.declared.StepKind.{StepKind}
 use Rattle.state.specs.declared.StepKind.the-variants as kind
 use Rattle.state.specs.State.{freshOf}
 use Rattle.moves.specs.Steps.{kindAt, listedOf, steppedOf}
-use Rattle.moves.specs.Standing.{waitingOf}
+use Rattle.moves.specs.Standing.{waitingOf, awaitsOf}
 use Rattle.engine.specs.declared.Stepped.{Stepped}
 use Rattle.verdict.specs.Verdict.{verdictOf}
 use Rattle.sheet_engine.specs.declared.VerdictAnswer.the-variants as verdict
 use Rattle.sheet_engine.specs.declared.StandingAnswer.{StandingAnswer}
 use Rattle.sheet_engine.specs.declared.StandingAnswer.the-variants as stands
-use Rattle.sheet_engine.specs.Answers.{given, verdictAnswer, startChecks, started, notStarted, startAnswer, listChecks, listAnswer, listBuffer, standingOf, standingChecks, standingAnswer, standingBuffer, kindAnswer, notTaken, stepAnswer}
+use Rattle.sheet_engine.specs.Answers.{given, verdictAnswer, startChecks, started, notStarted, startAnswer, listChecks, listAnswer, listBuffer, standingOf, standingChecks, standingAnswer, standingBuffer, waitsAnswer, waitsBuffer, kindAnswer, notTaken, stepAnswer}
 use Rattle.sheet_engine.specs.Values.{rowChecks, wasTaken}
 use Rattle.promises.specs.Contracts.{AsksNothing}
 use Rattle.promises.specs.Refused.{Answered, readChecks}
 use Rattle.promises.proofs.Refused.{answered, both-answered, map-answered, sheet-answered, kind-answered, step-answered}
 -- ... each answer once more by document 01's number and values, where a refusal has 0 in all other places; and that no second answer fits the contract of a call
-pub use Rattle.sheet_engine.proofs.Values.{read-answers, write-answers, verdict-answers, list-answers, standing-answers, kind-answers, step-answers}
-pub use Rattle.sheet_engine.proofs.Unique.{read-sheet-one, settings-part-one, terms-part-one, conditions-part-one, judge-table-one, write-sheet-one, give-verdict-one, start-one, list-steps-one, standing-one, step-kind-one, take-step-one, step-in-place-one}
+pub use Rattle.sheet_engine.proofs.Values.{read-answers, write-answers, verdict-answers, list-answers, standing-answers, waits-answers, kind-answers, step-answers}
+pub use Rattle.sheet_engine.proofs.Unique.{read-sheet-one, settings-part-one, terms-part-one, conditions-part-one, judge-table-one, write-sheet-one, give-verdict-one, start-one, list-steps-one, standing-one, waits-for-one, step-kind-one, take-step-one, step-in-place-one}
 
 -- "Every public call ends": each meets its contract, and a contract is met only by code that ends.
 pub every-call-ends : {M : Type 1} → read-sheet.Statement.statement M
@@ -68,6 +69,7 @@ pub every-call-ends : {M : Type 1} → read-sheet.Statement.statement M
     × start.Statement.statement M
     × list-steps.Statement.statement M
     × standing.Statement.statement M
+    × waits-for.Statement.statement M
     × step-kind.Statement.statement M
     × take-step.Statement.statement M
     × step-in-place.Statement.statement M
@@ -82,6 +84,7 @@ every-call-ends = (
   start.Met.met,
   list-steps.Met.met,
   standing.Met.met,
+  waits-for.Met.met,
   step-kind.Met.met,
   take-step.Met.met,
   step-in-place.Met.met,
@@ -99,10 +102,12 @@ module _ {M : Type 1} (𝓤 : URA M) (H : Heap 𝓤) (A : Atoms 𝓤) (at-mem : 
       × AsksNothing 𝓤 start.ended (start.clauses 𝓤 H A at-mem run)
       × AsksNothing 𝓤 list-steps.ended (list-steps.clauses 𝓤 H A at-mem run)
       × AsksNothing 𝓤 standing.ended (standing.clauses 𝓤 H A at-mem run)
+      × AsksNothing 𝓤 waits-for.ended (waits-for.clauses 𝓤 H A at-mem run)
       × AsksNothing 𝓤 step-kind.ended (step-kind.clauses 𝓤 H A at-mem run)
       × AsksNothing 𝓤 take-step.ended (take-step.clauses 𝓤 H A at-mem run)
       × AsksNothing 𝓤 step-in-place.ended (step-in-place.clauses 𝓤 H A at-mem run)
   every-call-takes-any = (
+    λ κs a g P. top 𝓤 P,
     λ κs a g P. top 𝓤 P,
     λ κs a g P. top 𝓤 P,
     λ κs a g P. top 𝓤 P,
@@ -158,6 +163,11 @@ list-steps-answers t s out = both-answered size.Refused (size.Size (length (list
 pub standing-call-answers : (t : Table) (s : State) (out : List ℕ) → Answered {A = StandingAnswer × List ℕ} (λ number place. (stands.Refused number place, out)) (standingOf t s, written (waitingOf t s) out) (standingChecks t s (length out)) (standingAnswer t s (length out), standingBuffer t s out)
 unfolding standingAnswer standingBuffer
 standing-call-answers t s out = both-answered stands.Refused (standingOf t s) (λ number place. out) (written (waitingOf t s) out) (standingChecks t s (length out))
+
+-- `waits_for`: how many rows the state waits for, and what each waits for at the buffer's front; a refusal leaves the buffer as it was
+pub waits-for-answers : (t : Table) (s : State) (out : List ℕ) → Answered {A = SizeAnswer × List ℕ} (λ number place. (size.Refused number place, out)) (size.Size (length (waitingOf t s)), written (awaitsOf t s) out) (standingChecks t s (length out)) (waitsAnswer t s (length out), waitsBuffer t s out)
+unfolding waitsAnswer waitsBuffer
+waits-for-answers t s out = both-answered size.Refused (size.Size (length (waitingOf t s))) (λ number place. out) (written (awaitsOf t s) out) (standingChecks t s (length out))
 
 -- `step_kind`: the kind
 pub step-kind-answers : (t : Table) (s : State) (row : ℕ) → Answered kind.Refused (kindAt t s row) (rowChecks t s row) (kindAnswer t s row)

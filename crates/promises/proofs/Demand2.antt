@@ -73,7 +73,7 @@ use Rattle.engine.specs.declared.Stepped.{Stepped}
 use Rattle.engine.specs.ByValue.{takenAnswer}
 use Rattle.sheet_engine.specs.declared.VerdictAnswer.{VerdictAnswer}
 use Rattle.sheet_engine.specs.declared.StandingAnswer.{StandingAnswer}
-use Rattle.sheet_engine.specs.Answers.{verdictAnswer, startAnswer, callChecks, listAnswer, listBuffer, standingAnswer, standingBuffer, kindAnswer, notTaken, stepAnswer}
+use Rattle.sheet_engine.specs.Answers.{verdictAnswer, startAnswer, callChecks, listAnswer, listBuffer, standingAnswer, standingBuffer, waitsAnswer, waitsBuffer, kindAnswer, notTaken, stepAnswer}
 use Rattle.sheet_engine.specs.Values.{verdictValues, FailsAt, sizeValues, standingValues, stepValues}
 use Rattle.sheet_engine.proofs.read_sheet as read-sheet
 use Rattle.sheet_engine.proofs.read_sheet.Reads as read-sheet-reads
@@ -84,6 +84,9 @@ use Rattle.sheet_engine.proofs.list_steps.Kinds as list-steps-kinds
 use Rattle.sheet_engine.proofs.standing as standing
 use Rattle.sheet_engine.proofs.standing.Reads as standing-reads
 use Rattle.sheet_engine.proofs.standing.Kinds as standing-kinds
+use Rattle.sheet_engine.proofs.waits_for as waits-for
+use Rattle.sheet_engine.proofs.waits_for.Reads as waits-for-reads
+use Rattle.sheet_engine.proofs.waits_for.Kinds as waits-for-kinds
 use Rattle.sheet_engine.proofs.step_kind as step-kind
 use Rattle.sheet_engine.proofs.step_kind.Reads as step-kind-reads
 use Rattle.sheet_engine.proofs.step_kind.Kinds as step-kind-kinds
@@ -91,10 +94,10 @@ use Rattle.sheet_engine.proofs.take_step as take-step
 use Rattle.sheet_engine.proofs.take_step.Reads as take-step-reads
 use Rattle.sheet_engine.proofs.take_step.Kinds as take-step-kinds
 use Rattle.sheet_engine.proofs.step_in_place as step-in-place
-use Rattle.sheet_engine.proofs.Beyond.{cut-write-answer, cut-write-buffer, cut-verdict-answer, cut-start-answer, cut-list-answer, cut-list-buffer, cut-standing-answer, cut-standing-buffer, cut-kind-answer, cut-step-answer}
+use Rattle.sheet_engine.proofs.Beyond.{cut-write-answer, cut-write-buffer, cut-verdict-answer, cut-start-answer, cut-list-answer, cut-list-buffer, cut-standing-answer, cut-standing-buffer, cut-waits-answer, cut-waits-buffer, cut-kind-answer, cut-step-answer}
 use Rattle.sheet_engine.proofs.Promises.{pass-answered, fail-answered, fail-values}
 use Rattle.promises.specs.Calls.{Accepted, verdictIn, Passes, Fails, SameAnswers, freshIn, link, listedIn, listedRows, next, Allowed, Run, taken}
-use Rattle.promises.proofs.Calls.{formed, one-source as one-source-in, refusal, unrefused, kind-is, rows-are, row-listed, state-is, turned, listed-in, listed-any, ok-listed, list-unrefused, standing-unrefused, kind-unrefused, step-unrefused, accepted-listed, taken-keeps, run-short}
+use Rattle.promises.proofs.Calls.{formed, one-source as one-source-in, refusal, unrefused, kind-is, rows-are, row-listed, state-is, turned, listed-in, listed-any, ok-listed, list-unrefused, standing-unrefused, waits-unrefused, kind-unrefused, step-unrefused, accepted-listed, taken-keeps, run-short}
 use Rattle.promises.proofs.Alike.{link-is}
 use Rattle.promises.proofs.Fresh.{fresh-accepted}
 use Rattle.promises.proofs.Verdict.{pass-told, fail-told, offending}
@@ -120,6 +123,8 @@ nothing-beyond t t′ e = record {
   buffer = (λ s lent. both (λ u. listBuffer u s lent) (λ u. cut-list-buffer u s lent));
   standing = (λ s lent. both (λ u. standingAnswer u s lent) (λ u. cut-standing-answer u s lent));
   waiting = (λ s lent. both (λ u. standingBuffer u s lent) (λ u. cut-standing-buffer u s lent));
+  waits = (λ s lent. both (λ u. waitsAnswer u s lent) (λ u. cut-waits-answer u s lent));
+  awaited = (λ s lent. both (λ u. waitsBuffer u s lent) (λ u. cut-waits-buffer u s lent));
   kind = (λ s row. both (λ u. kindAnswer u s row) (λ u. cut-kind-answer u s row));
   stepped = (λ s row. both (λ u. stepAnswer u s row) (λ u. cut-step-answer u s row));
 }
@@ -216,6 +221,10 @@ module _ (κs : Lfts 3) (a : ArgsD list-steps.signature κs) (z : AtExit (endedO
 module _ (κs : Lfts 3) (a : ArgsD standing.signature κs) (z : AtExit (endedOf 3 standing-kinds.ps standing-kinds.r) κs) (r : ResD standing.signature κs) (stood : standing-reads.Post κs a r z) where
   pub standing-accepts : standingValues r .refusal ≡ 0 → Accepted (tableOf (a .1 .0) (now (a .1 .1 .0)) (now (a .1 .1 .1 .0))) (a .0)
   standing-accepts e = standing-unrefused _ (a .0) (stood .1) (now (a .1 .1 .1 .1 .0)) (ap (λ (n : StandingAnswer). standingValues n .refusal) (sym (stood .0 .0)) ∙ e)
+
+module _ (κs : Lfts 3) (a : ArgsD waits-for.signature κs) (z : AtExit (endedOf 3 waits-for-kinds.ps waits-for-kinds.r) κs) (r : ResD waits-for.signature κs) (told : waits-for-reads.Post κs a r z) where
+  pub waits-accepts : sizeValues r .refusal ≡ 0 → Accepted (tableOf (a .1 .0) (now (a .1 .1 .0)) (now (a .1 .1 .1 .0))) (a .0)
+  waits-accepts e = waits-unrefused _ (a .0) (told .1) (now (a .1 .1 .1 .1 .0)) (ap (λ (n : SizeAnswer). sizeValues n .refusal) (sym (told .0 .0)) ∙ e)
 
 module _ (κs : Lfts 2) (a : ArgsD step-kind.signature κs) (z : AtExit (endedOf 2 step-kind-kinds.ps step-kind-kinds.r) κs) (r : ResD step-kind.signature κs) (asked : step-kind-reads.Post κs a r z) where
   pub kind-accepts : stepValues r .refusal ≡ 0 → Accepted (tableOf (a .1 .0) (now (a .1 .1 .0)) (now (a .1 .1 .1 .0))) (a .0)

@@ -3,6 +3,7 @@ pub mod Demand2
 pub mod Demand3
 pub mod Standing
 pub mod Sources
+pub mod Waits
 pub mod Cases
 -- what they rest on
 pub mod Refused

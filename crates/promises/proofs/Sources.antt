@@ -21,9 +21,9 @@ use Rattle.codec.specs.Answers.{readOf, writeOf}
 use Rattle.state.specs.declared.State.{State}
 use Rattle.state.specs.State.{freshOf}
 use Rattle.sheet_engine.specs.declared.Started.{Started}
-use Rattle.sheet_engine.specs.Answers.{verdictAnswer, startChecks, started, notStarted, startAnswer, listAnswer, standingAnswer, kindAnswer, stepAnswer}
+use Rattle.sheet_engine.specs.Answers.{verdictAnswer, startChecks, started, notStarted, startAnswer, listAnswer, standingAnswer, waitsAnswer, kindAnswer, stepAnswer}
 use Rattle.sheet_engine.specs.Values.{VerdictValues, verdictValues, SheetValues, sheetValues, SizeValues, sizeValues, StandingValues, standingValues, StepValues, stepValues, Answers}
-use Rattle.sheet_engine.proofs.Values.{all-held, read-answers, write-answers, verdict-answers, list-answers, standing-answers, kind-answers, step-answers}
+use Rattle.sheet_engine.proofs.Values.{all-held, read-answers, write-answers, verdict-answers, list-answers, standing-answers, waits-answers, kind-answers, step-answers}
 use Rattle.promises.specs.Sources.{upTo7, Thirteen}
 use Rattle.promises.proofs.Refused.{place-fails, refused-there, one-out, first-fails, Reads, values-told}
 
@@ -105,6 +105,10 @@ module _ (t : Table) (place : ℕ) where
     pub standing-13 : (lent : ℕ) → ((standingValues (standingAnswer t s lent) .refusal ≡ 13) × (standingValues (standingAnswer t s lent) .place ≡ place)) ↔ Thirteen t place
     unfolding without
     standing-13 lent = of-call (λ (v : StandingValues). v .refusal) (λ v. v .place) _ (standing-answers t s lent) (λ n p. (refl, refl)) refl
+
+    pub waits-for-13 : (lent : ℕ) → ((sizeValues (waitsAnswer t s lent) .refusal ≡ 13) × (sizeValues (waitsAnswer t s lent) .place ≡ place)) ↔ Thirteen t place
+    unfolding without
+    waits-for-13 lent = of-call (λ (v : SizeValues). v .refusal) (λ v. v .place) _ (waits-answers t s lent) (λ n p. (refl, refl)) refl
 
     pub step-kind-13 : (row : ℕ) → ((stepValues (kindAnswer t s row) .refusal ≡ 13) × (stepValues (kindAnswer t s row) .place ≡ place)) ↔ Thirteen t place
     unfolding without

@@ -1,4 +1,4 @@
--- What a caller sees through the calls, by the definitions that their contracts cite: the steps that are listed in a state, how it stands, and runs of steps that are taken.
+-- What a caller sees through the calls, by the definitions that their contracts cite: the steps that are listed in a state, how it stands, what it waits for, and runs of steps that are taken.
 use Prim.Native.Nat.{ℕ, _≤_}
 use mathlib.Core.Path.{_≡_}
 use mathlib.Core.Bool.{true}
@@ -17,10 +17,10 @@ use Rattle.state.specs.declared.State.{State}
 use Rattle.moves.specs.Steps.{modeOf, linksOf, Sized, leftIn}
 use Rattle.moves.specs.Fits.{Fits}
 use Rattle.moves.specs.Runs.{Taken}
-use Rattle.sheet_engine.specs.Answers.{verdictAnswer, startAnswer, listAnswer, listBuffer, standingAnswer, standingBuffer, kindAnswer, stepAnswer}
+use Rattle.sheet_engine.specs.Answers.{verdictAnswer, startAnswer, listAnswer, listBuffer, standingAnswer, standingBuffer, waitsAnswer, waitsBuffer, kindAnswer, stepAnswer}
 use Rattle.sheet_engine.specs.Values.{VerdictValues, verdictValues, StandingValues, standingValues}
 
--- A table and a state that a call with a state does not refuse: none of 1 to 10 and 13 fails, and the state is of the right size. Whoever is answered knows all of it from the contract of the call (`list-accepts`, `standing-accepts`, `kind-accepts`, `take-accepts`, `in-place-accepts`).
+-- A table and a state that a call with a state does not refuse: none of 1 to 10 and 13 fails, and the state is of the right size. Whoever is answered knows all of it from the contract of the call (`list-accepts`, `standing-accepts`, `waits-accepts`, `kind-accepts`, `take-accepts`, `in-place-accepts`).
 pub record Accepted (t : Table) (s : State) : Type 0 where
   pub table : refusalOf t .number ≡ 0
   pub mode : s .mode ≤ 1
@@ -46,6 +46,8 @@ pub record SameAnswers (t t′ : Table) : Type 0 where
   pub buffer : (s : State) (lent : List ℕ) → listBuffer t s lent ≡ listBuffer t′ s lent
   pub standing : (s : State) (lent : ℕ) → standingAnswer t s lent ≡ standingAnswer t′ s lent
   pub waiting : (s : State) (lent : List ℕ) → standingBuffer t s lent ≡ standingBuffer t′ s lent
+  pub waits : (s : State) (lent : ℕ) → waitsAnswer t s lent ≡ waitsAnswer t′ s lent
+  pub awaited : (s : State) (lent : List ℕ) → waitsBuffer t s lent ≡ waitsBuffer t′ s lent
   pub kind : (s : State) (row : ℕ) → kindAnswer t s row ≡ kindAnswer t′ s row
   pub stepped : (s : State) (row : ℕ) → stepAnswer t s row ≡ stepAnswer t′ s row
 
@@ -88,6 +90,13 @@ waitingIn t s lent = take (standingValues (standingAnswer t s (length lent)) .ro
 
 abbrev pub waitingRows : Table → State → List ℕ
 waitingRows t s = waitingIn t s (replicate 256 0)
+
+-- What they wait for: of the lent buffer as many bytes as `waits_for` answers, none where it refuses.
+unfoldable pub awaitedIn : Table → State → List ℕ → List ℕ
+awaitedIn t s lent = take (countOf (waitsAnswer t s (length lent))) (waitsBuffer t s lent)
+
+abbrev pub awaitedBytes : Table → State → List ℕ
+awaitedBytes t s = awaitedIn t s (replicate 256 0)
 
 -- exactly one of three
 abbrev pub OneOf : Type 0 → Type 0 → Type 0 → Type 0

@@ -18,7 +18,7 @@ use Rattle.sheet_engine.specs.declared.VerdictAnswer.the-variants.{Pass, Fail}
 use Rattle.sheet_engine.specs.declared.StandingAnswer.{StandingAnswer}
 use Rattle.sheet_engine.specs.declared.StandingAnswer.the-variants.{Enabled, Finished, Waiting}
 use Rattle.sheet_engine.specs.Answers.{verdictAnswer, listAnswer, standingAnswer, stepAnswer}
-use Rattle.promises.specs.Calls.{freshIn, listedSteps, waitingRows}
+use Rattle.promises.specs.Calls.{freshIn, listedSteps, waitingRows, awaitedBytes}
 
 -- what is asked: the verdict; or what a caller sees who starts the sheet in a mode and takes the steps of some rows; or how the sheet stands then
 pub data Question : Type 0 where
@@ -26,11 +26,11 @@ pub data Question : Type 0 where
   after : (mode : ℕ) (rows : List ℕ) → Question
   standing : (mode : ℕ) (rows : List ℕ) → Question
 
--- the answers of `take_step` on the way and of `list_steps`, the listed steps with their kinds, and the links of the sheet; or the answer of `standing`, with the rows waited for
+-- the answers of `take_step` on the way and of `list_steps`, the listed steps with their kinds, and the links of the sheet; or the answer of `standing`, with the rows waited for and, from `waits_for`, what each waits for
 pub data Answer : Type 0 where
   Verdict : VerdictAnswer → Answer
   Seen : (took : List StepKind) (answer : SizeAnswer) (steps : List Taken) (links : List ℕ) → Answer
-  Stands : (answer : StandingAnswer) (rows : List ℕ) → Answer
+  Stands : (answer : StandingAnswer) (rows links : List ℕ) → Answer
 
 pub record Case : Type 0 where
   pub sheet : List ℕ
@@ -58,7 +58,7 @@ abbrev pub seenIn : Table → State → List StepKind → Answer
 seenIn t s took = Seen took (listAnswer t s 256) (listedSteps t s) (take (t .m) (s .links))
 
 abbrev pub standsIn : Table → State → Answer
-standsIn t s = Stands (standingAnswer t s 256) (waitingRows t s)
+standsIn t s = Stands (standingAnswer t s 256) (waitingRows t s) (awaitedBytes t s)
 
 unfoldable pub answerTo : Table → Question → Answer
 answerTo t verdict = Verdict (verdictAnswer t)
@@ -112,13 +112,13 @@ cases =
     -- "cleaning, X after 4: link 0 true, row 6 listed as clean", "plain, after 4: nothing"
     of X (after 1 (4 ∷ [])) (Seen (Set 0 1 ∷ []) (Size 1) (at 6 Clean ∷ []) (2 ∷ [])) ∷
     of X (after 0 (4 ∷ [])) (Seen (Set 0 1 ∷ []) (Size 0) [] (2 ∷ [])) ∷
-    -- document 02, request 1: plain waits for row 6, after 2 and after 4
-    of X (standing 0 []) (Stands Enabled []) ∷
-    of X (standing 0 (2 ∷ [])) (Stands (Waiting 1) (6 ∷ [])) ∷
-    of X (standing 0 (4 ∷ [])) (Stands (Waiting 1) (6 ∷ [])) ∷
-    of X (standing 1 (2 ∷ 6 ∷ 7 ∷ [])) (Stands Finished []) ∷
+    -- document 02, requests 1 and 5: plain waits for row 6, after 2 for link 0, after 4 for none, since its condition is false
+    of X (standing 0 []) (Stands Enabled [] []) ∷
+    of X (standing 0 (2 ∷ [])) (Stands (Waiting 1) (6 ∷ []) (0 ∷ [])) ∷
+    of X (standing 0 (4 ∷ [])) (Stands (Waiting 1) (6 ∷ []) (255 ∷ [])) ∷
+    of X (standing 1 (2 ∷ 6 ∷ 7 ∷ [])) (Stands Finished [] []) ∷
     -- "cleaning may finish where plain waits": 4, and then the cleaning step 6
-    of X (standing 1 (4 ∷ 6 ∷ [])) (Stands Finished []) ∷
+    of X (standing 1 (4 ∷ 6 ∷ [])) (Stands Finished [] []) ∷
     -- "lazy OR of links 0 and 1 passes", "strict, it fails with number 5, link 1"
     of (joinOn 1 3 (LINK 0 ++ LINK 1 ++ OR 0 1)) verdict (Verdict Pass) ∷
     of (joinOn 0 3 (LINK 0 ++ LINK 1 ++ OR 0 1)) verdict (Verdict (Fail 2 5 1)) ∷
