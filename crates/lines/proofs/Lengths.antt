@@ -11,7 +11,7 @@ use Rattle.state.specs.declared.StepKind.the-variants as kind
 use Rattle.sheet_engine.specs.declared.VerdictAnswer.the-variants as verdict
 use Rattle.sheet_engine.specs.declared.StandingAnswer.{StandingAnswer}
 use Rattle.sheet_engine.specs.declared.StandingAnswer.the-variants as standing
-use Rattle.lines.specs.Lines.{field, fields, feed, refusedWord, refusedLine, passWords, failWords, verdictLine, stepWord, actWord, setWord, openWord, cleanWord, namedLine, stepLine, letters, linksWord, linksLine, enabledWord, waitingWord, finishedWord, rowsLine, finishedLine, lastLine}
+use Rattle.lines.specs.Lines.{field, fields, feed, refusedWord, refusedLine, passWords, failWords, verdictLine, stepWord, actWord, setWord, openWord, cleanWord, namedLine, stepLine, letters, linksWord, linksLine, enabledWord, waitingWord, finishedWord, rowsLine, finishedLine, waitField, waitFields, waitingLine, lastLine}
 use Rattle.lines.proofs.Decimal.{decimal-short, decimal-digits}
 
 -- at most so many bytes
@@ -37,7 +37,10 @@ unfolding field
 field-short d x h = let e = decimal-digits d x h in record { is = omega (arith, e) }
 
 -- numbers of three digits
-fields-short : (xs : List ℕ) → ((x : ℕ) → List·Memᴰ x xs → x < 1000) → Short (fields xs) (4 * length xs)
+abbrev pub Small : List ℕ → Type 0
+Small xs = (x : ℕ) → List·Memᴰ x xs → x < 1000
+
+fields-short : (xs : List ℕ) → Small xs → Short (fields xs) (4 * length xs)
 unfolding fields
 fields-short [] h = record { is = omega arith }
 fields-short (x ∷ xs) h = within _ _ (omega arith) (joined 4 (4 * length xs) (field-short 2 x (h x (List·Memᴰ·head refl))) (fields-short xs (λ y m. h y (List·Memᴰ·tail m))))
@@ -88,18 +91,37 @@ links-short m xs h = joined 5 66 (said linksWord) (joined 65 1 (at (eqb m 0)) (s
     at true = record { is = omega arith }
     at false = let e = letters-length (take m xs) in let f = length-take m xs in record { is = omega (arith, e, f, h) }
 
+-- a link of three digits, or none
+wait-short : (l : ℕ) → l < 1000 → Short (waitField l) 4
+unfolding waitField
+wait-short l h = at (eqb l 255)
+  where
+    at : (b : Bool) → Short (cond b (32 ∷ (45 ∷ [])) (field l)) 4
+    at true = record { is = omega arith }
+    at false = field-short 2 l h
+
+waits-short : (rows links : List ℕ) → Small rows → Small links → Short (waitFields rows links) (8 * length rows)
+unfolding waitFields
+waits-short [] links h k = record { is = omega arith }
+waits-short (r ∷ rows) [] h k = record { is = omega arith }
+waits-short (r ∷ rows) (l ∷ links) h k = within _ _ (omega arith) (joined 4 (4 + 8 * length rows) (field-short 2 r (h r (List·Memᴰ·head refl))) (joined 4 (8 * length rows) (wait-short l (k l (List·Memᴰ·head refl))) (waits-short rows links (λ y m. h y (List·Memᴰ·tail m)) (λ y m. k y (List·Memᴰ·tail m)))))
+
 -- at most 256 rows, of three digits each
 pub record FewRows (xs : List ℕ) : Type 0 where
   pub few : length xs ≤ 256
-  pub small : (x : ℕ) → List·Memᴰ x xs → x < 1000
+  pub small : Small xs
 
 rows-short : (word xs : List ℕ) → Short word 7 → FewRows xs → Short (rowsLine word xs) 1032
 unfolding rowsLine
 rows-short word xs w h = joined 7 1025 w (joined 1024 1 (within (4 * length xs) 1024 (omega (arith, h .few)) (fields-short xs (h .small))) (said feed))
 
-pub last-short : (a : StandingAnswer) (steps waiting : List ℕ) → FewRows steps → FewRows waiting → Short (lastLine a steps waiting) 1032
+waiting-short : (rows links : List ℕ) → FewRows rows → Small links → Short (waitingLine rows links) 2056
+unfolding waitingLine
+waiting-short rows links h k = joined 7 2049 (said waitingWord) (joined 2048 1 (within (8 * length rows) 2048 (omega (arith, h .few)) (waits-short rows links (h .small) k)) (said feed))
+
+pub last-short : (a : StandingAnswer) (steps waiting links : List ℕ) → FewRows steps → FewRows waiting → Small links → Short (lastLine a steps waiting links) 2056
 unfolding lastLine finishedLine
-last-short standing.Enabled steps waiting s w = rows-short enabledWord steps (said enabledWord) s
-last-short standing.Finished steps waiting s w = within 9 1032 (omega arith) (said (finishedWord ++ feed))
-last-short (standing.Waiting count) steps waiting s w = rows-short waitingWord waiting (said waitingWord) w
-last-short (standing.Refused number place) steps waiting s w = within 50 1032 (omega arith) (refused-short number place)
+last-short standing.Enabled steps waiting links s w l = within 1032 2056 (omega arith) (rows-short enabledWord steps (said enabledWord) s)
+last-short standing.Finished steps waiting links s w l = within 9 2056 (omega arith) (said (finishedWord ++ feed))
+last-short (standing.Waiting count) steps waiting links s w l = waiting-short waiting links w l
+last-short (standing.Refused number place) steps waiting links s w l = within 50 2056 (omega arith) (refused-short number place)

@@ -11,7 +11,7 @@ use lib.Seq.{drop-cons, sets, sets-eq}
 use borrow.Author.Tests.{lt-ltb, le-ltb, le-leb, ne-eqb}
 use Rattle.laws.specs.Listed.{written}
 use Rattle.lines.specs.Page.{Page, page, more, added}
-use Rattle.lines.specs.Lines.{field, fields, feed, letter, letters, linksWord, linksLine}
+use Rattle.lines.specs.Lines.{field, fields, feed, letter, letters, linksWord, linksLine, waitField, waitFields}
 
 pub added-append : (p : Page) (xs ys : List ℕ) → added (added p xs) ys ≡ added p (xs ++ ys)
 unfolding added
@@ -88,6 +88,26 @@ letters-end xs i h = ap letters (drop-of-length-le xs h)
 pub fields-end : (xs : List ℕ) (i : ℕ) → length xs ≤ i → fields (drop i xs) ≡ []
 unfolding fields
 fields-end xs i h = ap fields (drop-of-length-le xs h)
+
+-- what is left of rows and of what each waits for
+pub waits-next : (rows links : List ℕ) (i : ℕ) → i < length rows → i < length links → waitFields (drop i rows) (drop i links) ≡ field (getD rows i 0) ++ (waitField (getD links i 0) ++ waitFields (drop (i + 1) rows) (drop (i + 1) links))
+unfolding waitFields
+waits-next rows links i h k = ap (λ (xs : List ℕ). waitFields xs (drop i links)) (next rows i h) ∙ ap (waitFields (getD rows i 0 ∷ drop (i + 1) rows)) (next links i k)
+
+pub adding-wait : (b₀ : List ℕ) (e₀ : ℕ) (xs rows links b c d : List ℕ) (e f g i : ℕ) → i < length rows → length rows ≤ length links → Adding b₀ e₀ xs b e (waitFields (drop i rows) (drop i links)) → page c f ≡ added (page b e) (field (getD rows i 0)) → page d g ≡ added (page c f) (waitField (getD links i 0)) → Adding b₀ e₀ xs d g (waitFields (drop (i + 1) rows) (drop (i + 1) links))
+adding-wait b₀ e₀ xs rows links b c d e f g i h k a r l = adding-more _ _ _ _ _ _ _ _ _ _ (adding-more _ _ _ _ _ _ _ _ _ _ a (waits-next rows links i h (omega (arith, h, k))) r) refl l
+
+pub waits-end : (rows links : List ℕ) (i : ℕ) → length rows ≤ i → waitFields (drop i rows) (drop i links) ≡ []
+unfolding waitFields
+waits-end rows links i h = ap (λ (xs : List ℕ). waitFields xs (drop i links)) (drop-of-length-le rows h)
+
+pub wait-false : (l : ℕ) → l ≡ 255 → waitField l ≡ 32 ∷ (45 ∷ [])
+unfolding waitField
+wait-false l h = rw h
+
+pub wait-link : (l : ℕ) → (l ≡ 255 → ⊥) → waitField l ≡ field l
+unfolding waitField
+wait-link l h = rw (ne-eqb l 255 h)
 
 pub links-none : (m : ℕ) (xs : List ℕ) → m ≡ 0 → linksLine m xs ≡ linksWord ++ feed
 unfolding linksLine

@@ -109,9 +109,21 @@ rowsLine word rows = word ++ (fields rows ++ feed)
 unfoldable pub finishedLine : List ℕ
 finishedLine = finishedWord ++ feed
 
--- ""enabled" with the rows." Document 02, request 1: "The program prints "finished", or "waiting" with those rows in rising order." By how the state stands, the steps that are listed, and the rows that it waits for.
-unfoldable pub lastLine : StandingAnswer → List ℕ → List ℕ → List ℕ
-lastLine standing.Enabled steps waiting = rowsLine enabledWord steps
-lastLine standing.Finished steps waiting = finishedLine
-lastLine (standing.Waiting count) steps waiting = rowsLine waitingWord waiting
-lastLine (standing.Refused number place) steps waiting = refusedLine number place
+-- Document 02, request 5: ""waiting" lines print each row followed by its link, or by "-" where the condition is false." 255 stands for the latter.
+unfoldable pub waitField : ℕ → List ℕ
+waitField l = cond (eqb l 255) (32 ∷ (45 ∷ [])) (field l)
+
+unfoldable pub waitFields : List ℕ → List ℕ → List ℕ
+waitFields [] links = []
+waitFields (r ∷ rows) [] = []
+waitFields (r ∷ rows) (l ∷ links) = field r ++ (waitField l ++ waitFields rows links)
+
+unfoldable pub waitingLine : List ℕ → List ℕ → List ℕ
+waitingLine rows links = waitingWord ++ (waitFields rows links ++ feed)
+
+-- ""enabled" with the rows." Document 02, request 1: "The program prints "finished", or "waiting" with those rows in rising order." By how the state stands, the steps that are listed, the rows that it waits for and what each waits for.
+unfoldable pub lastLine : StandingAnswer → List ℕ → List ℕ → List ℕ → List ℕ
+lastLine standing.Enabled steps waiting links = rowsLine enabledWord steps
+lastLine standing.Finished steps waiting links = finishedLine
+lastLine (standing.Waiting count) steps waiting links = waitingLine waiting links
+lastLine (standing.Refused number place) steps waiting links = refusedLine number place

@@ -3,7 +3,7 @@ ghost use mathlib.Core.Path.{_≡_};
 ghost use Prim.Native.Nat.{_≤_};
 ghost use lib.ListN.{length};
 ghost use Rattle.lines.specs.Page.{page, more, added};
-ghost use Rattle.lines.specs.Lines.{decimal, field, fields, namedLine, stepLine, verdictLine, refusedLine, letter, letters, linksLine, enabledWord, waitingWord, rowsLine, finishedLine};
+ghost use Rattle.lines.specs.Lines.{decimal, field, fields, namedLine, stepLine, verdictLine, refusedLine, letter, letters, linksLine, enabledWord, rowsLine, waitField, waitFields, waitingLine, finishedLine};
 ghost use Rattle.state.specs.declared.StepKind.the-variants.{Act, Set};
 ghost use Rattle.sheet_engine.specs.declared.VerdictAnswer.the-variants.{Fail};
 use sheet_engine::VerdictAnswer;
@@ -199,11 +199,39 @@ pub fn enabled_line(out: &mut [u8], at: usize, rows: &[u8]) -> usize
     rows_line(out, at, b"enabled", rows)
 }
 
-// The JOIN rows that are waited for.
-pub fn waiting_line(out: &mut [u8], at: usize, rows: &[u8]) -> usize
-    ensures { λ r. ⌜ page (now (out .exit)) r ≡ added (page (now (out .entry)) at) (rowsLine waitingWord (now (rows .entry))) ⌝ }
+// A space and a link, or "-" where there is none to wait for.
+fn link_waited(out: &mut [u8], at: usize, l: u8) -> usize
+    ensures { λ r. ⌜ page (now (out .exit)) r ≡ added (page (now (out .entry)) at) (waitField l) ⌝ }
 {
-    rows_line(out, at, b"waiting", rows)
+    if l == 255 {
+        return text(out, at, b" -");
+    }
+    small_number(out, at, l)
+}
+
+// Rows, each followed by what it waits for.
+fn rows_waiting(out: &mut [u8], at: usize, rows: &[u8], links: &[u8]) -> usize
+    requires { ⌜ length (now rows) ≤ length (now links) ⌝ }
+    ensures { λ r. ⌜ page (now (out .exit)) r ≡ added (page (now (out .entry)) at) (waitFields (now (rows .entry)) (now (links .entry))) ⌝ }
+{
+    let mut end = at;
+    let mut i = 0;
+    while i < rows.len() {
+        end = small_number(out, end, rows[i]);
+        end = link_waited(out, end, links[i]);
+        i += 1;
+    }
+    end
+}
+
+// The JOIN rows that are waited for, each with its link.
+pub fn waiting_line(out: &mut [u8], at: usize, rows: &[u8], links: &[u8]) -> usize
+    requires { ⌜ length (now rows) ≤ length (now links) ⌝ }
+    ensures { λ r. ⌜ page (now (out .exit)) r ≡ added (page (now (out .entry)) at) (waitingLine (now (rows .entry)) (now (links .entry))) ⌝ }
+{
+    let said = text(out, at, b"waiting");
+    let listed = rows_waiting(out, said, rows, links);
+    put(out, listed, 10)
 }
 
 // Nothing is left to do.

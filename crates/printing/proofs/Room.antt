@@ -1,8 +1,8 @@
--- Every output of an input of bytes fits the buffer: a verdict has at most 25 bytes, each of at most 256 steps 18, the links 71 and the last line 1,032. A refusal, which ends the output, has at most 50, whatever its number and its place. Assumes nothing.
+-- Every output of an input of bytes fits the buffer: a verdict has at most 25 bytes, each of at most 256 steps 18, the links 71 and the last line 2,056. A refusal, which ends the output, has at most 50, whatever its number and its place. Assumes nothing.
 use mathlib.Core.Path.{_≡_, refl, sym, ap, subst}
 use mathlib.Core.Bool.{Bool, true, false, cond}
 use mathlib.Core.Option.{some}
-use mathlib.Core.List.{List, [], _∷_, _++_}
+use mathlib.Core.List.{List, [], _∷_, _++_, Memᴰ·of-map}
 use Prim.Native.Nat.{ℕ, zero, suc, _+_, _*_, _^_, _≤_, _<_}
 use native.Mathlib.Nat.{pow-le-pow-right, zero-lt-suc}
 use native.Mathlib.Omega.{arith}
@@ -32,12 +32,12 @@ use Rattle.codec.specs.Answers.{Bytes}
 use Rattle.state.specs.declared.State.{State}
 use Rattle.state.specs.State.{freshOf}
 use Rattle.moves.specs.Steps.{marksOf, nodes, turnAt, kindOf, kindBy, kindTurned, kindAt, hasStep, steppedOf, listedOf}
-use Rattle.moves.specs.Standing.{waitingOf}
+use Rattle.moves.specs.Standing.{waitingOf, awaitedOf, awaitsOf}
 use Rattle.moves.specs.Fits.{modeCheck}
 use Rattle.moves.specs.Runs.{Run, done, taken}
 use Rattle.moves.specs.Runs as runs
 use Rattle.moves.proofs.Moves.{has-turn, turn-fronts, turn-parts}
-use Rattle.moves.proofs.Standing.{waiting-below}
+use Rattle.moves.proofs.Standing.{waiting-below, awaited-small}
 use Rattle.moves.proofs.Kept.{run-length}
 use Rattle.verdict.specs.declared.Verdict.{Verdict}
 use Rattle.verdict.specs.declared.Verdict.the-variants as verdict
@@ -57,7 +57,7 @@ use Rattle.printing.specs.Printed.{modeIn, sizeIn, sheetIn, rowsIn, comp
 
 -- what the lines sum up to: the links and the last line, with the verdict and the steps before them
 abbrev ending : ℕ
-ending = 71 + 1032
+ending = 71 + 2056
 
 abbrev pub longest : ℕ
 longest = 25 + (256 * 18 + ending)
@@ -125,14 +125,15 @@ untaken-short : (t : Table) (s : State) (r : ℕ) → hasStep t s r ≡ false �
 unfolding stepLine
 untaken-short t s r e = rw (no-kind t s r e) (refused-short 11 r)
 
--- THE END: the rows that are listed or waited for are below n
+-- THE END: the rows that are listed or waited for are below n, and what they wait for is a byte
 end-short : (t : Table) (s : State) → Accepted t s → Short (endLines t s) ending
-unfolding endLines listedOf
+unfolding endLines listedOf awaitsOf
 end-short t s g =
-    joined 71 1032 (links-short (t .m) (s .links) (formed g .few-links))
-    (last-short (standingOf t s) (listedOf t s) (waitingOf t s)
+    joined 71 2056 (links-short (t .m) (s .links) (formed g .few-links))
+    (last-short (standingOf t s) (listedOf t s) (waitingOf t s) (awaitsOf t s)
     (record { few = few-listed t s (unrefused t s g); small = λ x m. omega (arith, listed-under (hasStep t s) 0 (t .n) x m, formed g .few-terms) })
-    (record { few = few-waiting t s (unrefused t s g); small = λ x m. omega (arith, waiting-below t s x m, formed g .few-terms) }))
+    (record { few = few-waiting t s (unrefused t s g); small = λ x m. omega (arith, waiting-below t s x m, formed g .few-terms) })
+    (λ x m. let (r, _, e) = Memᴰ·of-map (awaitedOf t s) (waitingOf t s) m in omega (arith, awaited-small t s r, e)))
 
 -- the lines of the steps that a run takes
 steps-short : (t : Table) → Bytes (t .terms) → (s : State) (rows : List ℕ) → Accepted t s → (R : Run t s) × Short (stepLines t s rows) (length (taken R) * 18 + ending)

@@ -12,15 +12,16 @@ use Rattle.codec.specs.declared.SizeAnswer.{SizeAnswer}
 use Rattle.codec.specs.declared.SizeAnswer.the-variants as size
 use Rattle.state.specs.declared.State.{State}
 use Rattle.moves.specs.Steps.{kindAt, hasStep, steppedOf, listedOf}
-use Rattle.moves.specs.Standing.{waitingOf}
+use Rattle.moves.specs.Standing.{waitingOf, awaitsOf}
+use Rattle.moves.proofs.Standing.{awaits-length}
 use Rattle.engine.specs.declared.Stepped.{Stepped}
 use Rattle.sheet_engine.specs.declared.StandingAnswer.{StandingAnswer}
 use Rattle.sheet_engine.specs.declared.StandingAnswer.the-variants as standing
-use Rattle.sheet_engine.specs.Answers.{listAnswer, listBuffer, standingOf, standingAnswer, standingBuffer, stepAnswer}
+use Rattle.sheet_engine.specs.Answers.{listAnswer, listBuffer, standingOf, standingAnswer, standingBuffer, waitsAnswer, waitsBuffer, stepAnswer}
 use Rattle.sheet_engine.specs.Values.{standingValues}
 use Rattle.sheet_engine.proofs.Stands.{stands-rows, one-word}
 use Rattle.promises.specs.Calls.{Accepted, countOf}
-use Rattle.promises.proofs.Calls.{refusal, unrefused, list-answers, few-listed, standing-is, few-waiting, ok-is, answer-is, state-is, stepped}
+use Rattle.promises.proofs.Calls.{refusal, unrefused, list-answers, few-listed, standing-is, few-waiting, waits-is, few-awaited, ok-is, answer-is, state-is, stepped}
 use Rattle.lines.specs.Lines.{stepLine, lastLine}
 use Rattle.lines.proofs.Pages.{next as next-of}
 use Rattle.printing.specs.Printed.{endLines, stepLines}
@@ -40,34 +41,42 @@ module _ (found lent rows : List ℕ) (count : ℕ) (counted : count ≡ length 
   part : take count rows ≡ found
   part = ap (take count) are ∙ take-at found (drop (length found) lent) count (sym counted)
 
+-- a call told how many bytes it found, and left them at the front of a lent buffer
+pub record Told (found lent : List ℕ) (answer : SizeAnswer) (left : List ℕ) : Type 0 where
+  pub number : answer ≡ size.Size (length found)
+  pub front : left ≡ found ++ drop (length found) lent
+
+module _ {found lent left : List ℕ} {answer : SizeAnswer} (told : Told found lent answer left) where
+  pub told-lies : (count : ℕ) → answer ≡ size.Size count → count ≤ length left
+  told-lies count is = lies found lent left count (ap countOf (sym is ∙ told .number)) (told .front)
+
+  pub told-part : (count : ℕ) → answer ≡ size.Size count → take count left ≡ found
+  told-part count is = part found lent left count (ap countOf (sym is ∙ told .number)) (told .front)
+
+  pub told-unrefused : (n p : ℕ) → answer ≡ size.Refused n p → ⊥
+  told-unrefused n p is = size-unrefused _ n p (sym is ∙ told .number)
+
 -- a buffer of 256 bytes takes every list
 module _ (t : Table) (s : State) (a : Accepted t s) (lent : List ℕ) (long : length lent ≡ 256) where
   free : refusal t s .number ≡ 0
   free = unrefused t s a
 
-  listed-told : (listAnswer t s (length lent) ≡ size.Size (length (listedOf t s))) × (listBuffer t s lent ≡ listedOf t s ++ drop (length (listedOf t s)) lent)
-  listed-told = list-answers t s free lent (omega (arith, few-listed t s free, long))
+  pub listed-told : (answer : SizeAnswer) (left : List ℕ) → (answer ≡ listAnswer t s (length lent)) × (left ≡ listBuffer t s lent) → Told (listedOf t s) lent answer left
+  listed-told answer left (e, f) = let (c, b) = list-answers t s free lent (omega (arith, few-listed t s free, long)) in record { number = e ∙ c; front = f ∙ b }
 
+  pub waits-told : (answer : SizeAnswer) (left : List ℕ) → (answer ≡ waitsAnswer t s (length lent)) × (left ≡ waitsBuffer t s lent) → Told (awaitsOf t s) lent answer left
+  waits-told answer left (e, f) = let (c, b) = waits-is t s free lent (omega (arith, few-awaited t s free, long)) in record { number = e ∙ c; front = f ∙ b }
+
+  -- ... and every row that is waited for
   standing-told : (standingAnswer t s (length lent) ≡ standingOf t s) × (standingBuffer t s lent ≡ waitingOf t s ++ drop (length (waitingOf t s)) lent)
   standing-told = standing-is t s free lent (omega (arith, few-waiting t s free, long))
 
-  module _ (rows : List ℕ) (count : ℕ) (told : size.Size count ≡ listAnswer t s (length lent)) (left : rows ≡ listBuffer t s lent) where
-    pub list-lies : count ≤ length rows
-    list-lies = lies (listedOf t s) lent rows count (ap countOf (told ∙ listed-told .0)) (left ∙ listed-told .1)
-
-    pub list-part : take count rows ≡ listedOf t s
-    list-part = part (listedOf t s) lent rows count (ap countOf (told ∙ listed-told .0)) (left ∙ listed-told .1)
-
-  pub list-unrefused : (n p : ℕ) → size.Refused n p ≡ listAnswer t s (length lent) → ⊥
-  list-unrefused n p told = size-unrefused _ n p (told ∙ listed-told .0)
-
-  -- ... and every row that is waited for
   module _ (answer : StandingAnswer) (told : answer ≡ standingAnswer t s (length lent)) where
     stands : answer ≡ standingOf t s
     stands = told ∙ standing-told .0
 
-    pub line-of : (b : StandingAnswer) → answer ≡ b → lastLine b (listedOf t s) (waitingOf t s) ≡ lastLine (standingOf t s) (listedOf t s) (waitingOf t s)
-    line-of b is = ap (λ (z : StandingAnswer). lastLine z (listedOf t s) (waitingOf t s)) (sym is ∙ stands)
+    pub line-of : (b : StandingAnswer) → answer ≡ b → lastLine b (listedOf t s) (waitingOf t s) (awaitsOf t s) ≡ lastLine (standingOf t s) (listedOf t s) (waitingOf t s) (awaitsOf t s)
+    line-of b is = ap (λ (z : StandingAnswer). lastLine z (listedOf t s) (waitingOf t s) (awaitsOf t s)) (sym is ∙ stands)
 
     pub stand-unrefused : (n p : ℕ) → standing.Refused n p ≡ answer → ⊥
     stand-unrefused n p e =
@@ -83,6 +92,10 @@ module _ (t : Table) (s : State) (a : Accepted t s) (lent : List ℕ) (long : le
 
       pub waited-part : take count rows ≡ waitingOf t s
       waited-part = part (waitingOf t s) lent rows count waited (left ∙ standing-told .1)
+
+-- a byte for each row that is waited for
+pub waits-matched : (t : Table) (s : State) (rows links : List ℕ) → rows ≡ waitingOf t s → links ≡ awaitsOf t s → length rows ≤ length links
+waits-matched t s rows links e f = omega (arith, ap length e, ap length f, awaits-length t s)
 
 -- the next step's line, and what comes after it
 module _ (t : Table) (s : State) (a : Accepted t s) (rows : List ℕ) (i : ℕ) (inside : i < length rows) (next : Stepped) (told : next ≡ stepAnswer t s (getD rows i 0)) where

@@ -10,7 +10,7 @@ use Rattle.sheet.specs.Sheet.{numberAt, tableIn, sheetChecks}
 use Rattle.state.specs.declared.State.{State}
 use Rattle.state.specs.State.{freshOf}
 use Rattle.moves.specs.Steps.{kindAt, hasStep, steppedOf, listedOf}
-use Rattle.moves.specs.Standing.{waitingOf}
+use Rattle.moves.specs.Standing.{waitingOf, awaitsOf}
 use Rattle.moves.specs.Fits.{modeCheck}
 use Rattle.sheet_engine.specs.Answers.{verdictAnswer, standingOf}
 use Rattle.lines.specs.Lines.{refusedLine, verdictLine, stepLine, linksLine, lastLine}
@@ -34,7 +34,7 @@ complete input = record { number = 1; from = 0; upto = 1; rule = λ p. leb 3 (le
 
 -- ""links" with [...] m letters [...]"; then the last line, by how the state stands
 unfoldable pub endLines : Table → State → List ℕ
-endLines t s = linksLine (t .m) (s .links) ++ lastLine (standingOf t s) (listedOf t s) (waitingOf t s)
+endLines t s = linksLine (t .m) (s .links) ++ lastLine (standingOf t s) (listedOf t s) (waitingOf t s) (awaitsOf t s)
 
 -- "for each step "step", the row, and [...]; A refusal prints "refused", number and place, and ends."
 unfoldable pub stepLines : Table → State → List ℕ → List ℕ

@@ -7,7 +7,8 @@ ghost use Rattle.laws.specs.Listed.{written};
 ghost use Rattle.sheet.specs.Table.{tableOf};
 ghost use Rattle.lines.specs.Page.{page, added};
 ghost use Rattle.moves.specs.Steps.{listedOf};
-ghost use Rattle.lines.specs.Lines.{refusedLine, enabledWord, rowsLine};
+ghost use Rattle.moves.specs.Standing.{waitingOf, awaitsOf};
+ghost use Rattle.lines.specs.Lines.{refusedLine, enabledWord, rowsLine, waitingLine};
 ghost use Rattle.sheet_engine.specs.Answers.{startChecks, stepAnswer};
 ghost use Rattle.printing.specs.Printed.{endLines, stepLines, runLines, sheetLines, printed};
 ghost use Rattle.promises.specs.Calls.{Accepted};
@@ -18,8 +19,8 @@ use sheet::Head;
 use sheet_engine::StandingAnswer;
 use state::State;
 
-// No output is longer: the verdict's line, 256 steps, the links, and 256 rows that have a step or are waited for.
-pub const LONGEST: usize = 25 + 256 * 18 + 71 + 1032;
+// No output is longer: the verdict's line, 256 steps, the links, and 256 rows that are waited for, each with its link.
+pub const LONGEST: usize = 25 + 256 * 18 + 71 + 2056;
 
 // The rows that have a step.
 fn listed_line(out: &mut [u8], at: usize, s: State, h: Head, ts: &[u8], cs: &[u8]) -> usize
@@ -29,6 +30,26 @@ fn listed_line(out: &mut [u8], at: usize, s: State, h: Head, ts: &[u8], cs: &[u8
     let mut rows = [0; 256];
     match sheet_engine::list_steps(s, h, ts, cs, &mut rows) {
         SizeAnswer::Size(count) => lines::enabled_line(out, at, &rows[..count]),
+        SizeAnswer::Refused(number, place) => lines::refused_line(out, at, number, place),
+    }
+}
+
+// The rows that are waited for, each with its link.
+fn waited_line(
+    out: &mut [u8],
+    at: usize,
+    s: State,
+    h: Head,
+    ts: &[u8],
+    cs: &[u8],
+    rows: &[u8],
+) -> usize
+    requires { ⌜ Accepted (tableOf h (now ts) (now cs)) s × (now rows ≡ waitingOf (tableOf h (now ts) (now cs)) s) ⌝ }
+    ensures { λ r. ⌜ page (now (out .exit)) r ≡ added (page (now (out .entry)) at) (waitingLine (waitingOf (tableOf h (now (ts .entry)) (now (cs .entry))) s) (awaitsOf (tableOf h (now (ts .entry)) (now (cs .entry))) s)) ⌝ }
+{
+    let mut links = [0; 256];
+    match sheet_engine::waits_for(s, h, ts, cs, &mut links) {
+        SizeAnswer::Size(count) => lines::waiting_line(out, at, rows, &links[..count]),
         SizeAnswer::Refused(number, place) => lines::refused_line(out, at, number, place),
     }
 }
@@ -44,7 +65,7 @@ fn end_lines(out: &mut [u8], at: usize, s: State, h: Head, ts: &[u8], cs: &[u8])
     match sheet_engine::standing(s, h, ts, cs, &mut rows) {
         StandingAnswer::Enabled => listed_line(out, end, s, h, ts, cs),
         StandingAnswer::Finished => lines::finished_line(out, end),
-        StandingAnswer::Waiting(count) => lines::waiting_line(out, end, &rows[..count]),
+        StandingAnswer::Waiting(count) => waited_line(out, end, s, h, ts, cs, &rows[..count]),
         StandingAnswer::Refused(number, place) => lines::refused_line(out, end, number, place),
     }
 }

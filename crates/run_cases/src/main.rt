@@ -4,12 +4,13 @@ use libc::STDOUT_FILENO;
 // More than any text of a case of the program.
 const TEXT: usize = 65792;
 
-// What answers an input: the program; the calls on a state; the calls on a table; the call that tells how a state stands.
+// What answers an input: the program; the calls on a state; the calls on a table; the call that tells how a state stands, alone or with the one that tells what it waits for.
 enum Kind {
     Program,
     States,
     Tables,
     Standing,
+    Waiting,
 }
 
 fn prints(input: &[u8], expected: &[u8]) -> bool {
@@ -38,7 +39,8 @@ fn next_case(file: i32, kind: Kind) -> u8 {
         Kind::Program => program_agrees(file, given) as u8,
         Kind::States => state_cases::agrees(file) as u8,
         Kind::Tables => table_cases::agrees(file) as u8,
-        Kind::Standing => standing_cases::agrees(file) as u8,
+        Kind::Standing => standing_cases::agrees(file, false) as u8,
+        Kind::Waiting => standing_cases::agrees(file, true) as u8,
     }
 }
 
@@ -76,10 +78,12 @@ fn main() {
     try_file(b"base", b"base.cases", Kind::Program);
     try_file(b"request 1", b"level-1.cases", Kind::Program);
     try_file(b"request 3", b"level-3.cases", Kind::Program);
+    try_file(b"request 5", b"level-5.cases", Kind::Program);
     try_file(b"states", b"states-base.cases", Kind::States);
     try_file(b"tables", b"tables-base.cases", Kind::Tables);
     try_file(b"standing", b"standing-1.cases", Kind::Standing);
     try_file(b"states, request 3", b"states-3.cases", Kind::States);
     try_file(b"tables, request 3", b"tables-3.cases", Kind::Tables);
     try_file(b"standing, request 3", b"standing-3.cases", Kind::Standing);
+    try_file(b"waiting, request 5", b"standing.cases", Kind::Waiting);
 }

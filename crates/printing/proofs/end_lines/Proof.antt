@@ -3,7 +3,7 @@ use mathlib.Core.Path.{refl, sym, ap, _∙_}
 use native.Mathlib.Omega.{arith}
 use lib.Seq.{length-take-le}
 use Rattle.lines.specs.Page.{added}
-use Rattle.lines.specs.Lines.{waitingWord, rowsLine, lastLine}
+use Rattle.lines.specs.Lines.{lastLine}
 use Rattle.lines.proofs.Pages.{then}
 use Rattle.printing.specs.Printed.{endLines}
 use Rattle.promises.proofs.Calls.{formed}
@@ -42,11 +42,14 @@ enum-known-count c = search needs
 array-share-prefix-rows : tie.Need-array-share-prefix-rows
 array-share-prefix-rows c = waited-lies _ _ (c .before .before .before .before .before .before .before .before .before .before .before .before .before .before .before .before .pre) (replicate 256 0) refl _ (c .before .before .before .before .before .standing .ensures .0 .0) _ _ (c .before .before .count .given .1) (c .before .before .before .before .before .standing .ensures .0 .1)
 
-slice-aggregate-waiting-line : tie.Need-slice-aggregate-waiting-line
-slice-aggregate-waiting-line c = sym (length-take-le _ _ (waited-lies _ _ (c .before .before .before .before .before .before .before .before .before .before .before .before .before .before .before .before .before .pre) (replicate 256 0) refl _ (c .before .before .before .before .before .before .standing .ensures .0 .0) _ _ (c .before .before .before .count .given .1) (c .before .before .before .before .before .before .standing .ensures .0 .1)))
+slice-aggregate-waited-line : tie.Need-slice-aggregate-waited-line
+slice-aggregate-waited-line c = sym (length-take-le _ _ (waited-lies _ _ (c .before .before .before .before .before .before .before .before .before .before .before .before .before .before .before .before .before .pre) (replicate 256 0) refl _ (c .before .before .before .before .before .before .standing .ensures .0 .0) _ _ (c .before .before .before .count .given .1) (c .before .before .before .before .before .before .standing .ensures .0 .1)))
 
-waiting-line-requires : tie.Need-waiting-line-requires
-waiting-line-requires c κs = search needs
+waited-line-requires : tie.Need-waited-line-requires
+waited-line-requires c κs =
+    let b = c .before .before .before .before .before .before in
+    let p = b .before .before .before .before .before .before .before .before .before .before .before .pre in
+    (p, waited-part _ _ p (replicate 256 0) refl _ (b .standing .ensures .0 .0) _ _ (c .before .before .before .count .given .1) (b .standing .ensures .0 .1))
 
 enum-known-number : tie.Need-enum-known-number
 enum-known-number c = search needs
@@ -73,7 +76,9 @@ same-length-3 c = search needs
 
 returns-3 : tie.Need-returns-3
 unfolding endLines lastLine
-returns-3 c = then _ _ _ _ _ (c .before .before .before .before .before .before .before .before .before .before .before .before .before .links-line .ensures) (c .before .before .waiting-line .ensures ∙ ap (added _) (ap (rowsLine waitingWord) (waited-part _ _ (c .before .before .before .before .before .before .before .before .before .before .before .before .before .before .before .before .before .before .before .before .pre) (replicate 256 0) refl _ (c .before .before .before .before .before .before .before .before .before .standing .ensures .0 .0) _ _ (c .before .before .before .before .before .before .count .given .1) (c .before .before .before .before .before .before .before .before .before .standing .ensures .0 .1)) ∙ line-of _ _ (c .before .before .before .before .before .before .before .before .before .before .before .before .before .before .before .before .before .before .before .before .pre) (replicate 256 0) refl _ (c .before .before .before .before .before .before .before .before .before .standing .ensures .0 .0) _ (c .before .before .before .before .before .before .count .given .1)))
+returns-3 c =
+    let b = c .before .before .before .before .before .before .before .before .before in
+    then _ _ _ _ _ (b .before .before .before .before .links-line .ensures) (c .before .before .waited-line .ensures ∙ ap (added _) (line-of _ _ (b .before .before .before .before .before .before .before .before .before .before .before .pre) (replicate 256 0) refl _ (b .standing .ensures .0 .0) _ (c .before .before .before .before .before .before .count .given .1)))
 
 same-length-4 : tie.Need-same-length-4
 same-length-4 c = search needs
@@ -95,8 +100,8 @@ end-lines-spec =
     finished-line-requires
     enum-known-count
     array-share-prefix-rows
-    slice-aggregate-waiting-line
-    waiting-line-requires
+    slice-aggregate-waited-line
+    waited-line-requires
     enum-known-number
     refused-line-requires
     same-length

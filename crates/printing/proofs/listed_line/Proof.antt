@@ -3,7 +3,7 @@ use mathlib.Core.Path.{refl, sym, ap, _∙_}
 use lib.Seq.{length-take-le}
 use Rattle.lines.specs.Page.{added}
 use Rattle.lines.specs.Lines.{enabledWord, rowsLine}
-use Rattle.printing.proofs.Runs.{list-lies, list-part, list-unrefused}
+use Rattle.printing.proofs.Runs.{told-lies, told-part, told-unrefused, listed-told}
 use borrow.Author.Needs.{needs}
 use Rattle.printing.proofs.listed_line.Statement.{statement}
 use Rattle.printing.proofs.listed_line.Tie as tie
@@ -18,10 +18,10 @@ enum-known-count : tie.Need-enum-known-count
 enum-known-count c = search needs
 
 array-share-prefix-rows : tie.Need-array-share-prefix-rows
-array-share-prefix-rows c = list-lies _ _ (c .before .before .before .before .before .before .before .before .before .before .pre) (replicate 256 0) refl _ _ (sym (c .before .before .count .given .1) ∙ c .before .before .before .before .before .list-steps .ensures .0 .0) (c .before .before .before .before .before .list-steps .ensures .0 .1)
+array-share-prefix-rows c = told-lies (listed-told _ _ (c .before .before .before .before .before .before .before .before .before .before .pre) (replicate 256 0) refl _ _ (c .before .before .before .before .before .list-steps .ensures .0)) _ (c .before .before .count .given .1)
 
 slice-aggregate-enabled-line : tie.Need-slice-aggregate-enabled-line
-slice-aggregate-enabled-line c = sym (length-take-le _ _ (list-lies _ _ (c .before .before .before .before .before .before .before .before .before .before .before .pre) (replicate 256 0) refl _ _ (sym (c .before .before .before .count .given .1) ∙ c .before .before .before .before .before .before .list-steps .ensures .0 .0) (c .before .before .before .before .before .before .list-steps .ensures .0 .1)))
+slice-aggregate-enabled-line c = sym (length-take-le _ _ (told-lies (listed-told _ _ (c .before .before .before .before .before .before .before .before .before .before .before .pre) (replicate 256 0) refl _ _ (c .before .before .before .before .before .before .list-steps .ensures .0)) _ (c .before .before .before .count .given .1)))
 
 enabled-line-requires : tie.Need-enabled-line-requires
 enabled-line-requires c κs = search needs
@@ -36,13 +36,15 @@ same-length : tie.Need-same-length
 same-length c = search needs
 
 returns : tie.Need-returns
-returns c = c .before .before .enabled-line .ensures ∙ ap (added _) (ap (rowsLine enabledWord) (list-part _ _ (c .before .before .before .before .before .before .before .before .before .before .before .before .before .before .pre) (replicate 256 0) refl _ _ (sym (c .before .before .before .before .before .before .count .given .1) ∙ c .before .before .before .before .before .before .before .before .before .list-steps .ensures .0 .0) (c .before .before .before .before .before .before .before .before .before .list-steps .ensures .0 .1)))
+returns c =
+    let rows = told-part (listed-told _ _ (c .before .before .before .before .before .before .before .before .before .before .before .before .before .before .pre) (replicate 256 0) refl _ _ (c .before .before .before .before .before .before .before .before .before .list-steps .ensures .0)) _ (c .before .before .before .before .before .before .count .given .1) in
+    c .before .before .enabled-line .ensures ∙ ap (added _) (ap (rowsLine enabledWord) rows)
 
 same-length-2 : tie.Need-same-length-2
 same-length-2 c = search needs
 
 returns-2 : tie.Need-returns-2
-returns-2 c = absurd (list-unrefused _ _ (c .before .before .before .before .before .before .before .before .before .before .before .before .before .pre) (replicate 256 0) refl _ _ (sym (c .before .before .before .before .before .number .given .1) ∙ c .before .before .before .before .before .before .before .before .list-steps .ensures .0 .0))
+returns-2 c = absurd (told-unrefused (listed-told _ _ (c .before .before .before .before .before .before .before .before .before .before .before .before .before .pre) (replicate 256 0) refl _ _ (c .before .before .before .before .before .before .before .before .list-steps .ensures .0)) _ _ (c .before .before .before .before .before .number .given .1))
 
 pub listed-line-spec : {M : Type 1} → statement M
 listed-line-spec =
