@@ -1,5 +1,5 @@
 // One call, or all but the call, for counting instructions: two runs that differ in the second letter differ by one call.
-// Standard input: r, p, j, w, v, s, l, h, k, t or i (read, terms part, judge, write, verdict, start, list, how a state stands, kind, step, step on a lent record); 1 to make the call, 0 not to; the mode; the row asked for; the number of steps taken first, and their rows; the sheet. The answer is printed as three numbers of four hex digits, so that each costs the same.
+// Standard input: r, p, j, w, v, s, l, h, a, k, t or i (read, terms part, judge, write, verdict, start, list, how a state stands, what it waits for, kind, step, step on a lent record); 1 to make the call, 0 not to; the mode; the row asked for; the number of steps taken first, and their rows; the sheet. The answer is printed as three numbers of four hex digits, so that each costs the same.
 use codec::SheetAnswer;
 use codec::SizeAnswer;
 use libc::STDIN_FILENO;
@@ -118,6 +118,11 @@ fn list_seen(s: State, h: Head, ts: &[u8], cs: &[u8], at: u8, out: &mut [u8; 206
     size_seen(answer, out, at)
 }
 
+fn waits_seen(s: State, h: Head, ts: &[u8], cs: &[u8], at: u8, out: &mut [u8; 2066]) -> Seen {
+    let answer = sheet_engine::waits_for(s, h, ts, cs, out);
+    size_seen(answer, out, at)
+}
+
 // 0 where steps are listed, 1 finished, 2 waiting, with the number of rows and the row at a place.
 fn standing_seen(s: State, h: Head, ts: &[u8], cs: &[u8], at: u8, out: &mut [u8; 2066]) -> Seen {
     let answer = sheet_engine::standing(s, h, ts, cs, out);
@@ -153,6 +158,7 @@ fn called(
         }
         b'l' => list_seen(s, h, ts, cs, row, out),
         b'h' => standing_seen(s, h, ts, cs, row, out),
+        b'a' => waits_seen(s, h, ts, cs, row, out),
         b'k' => kind_seen(sheet_engine::step_kind(s, h, ts, cs, row as usize)),
         b'i' => {
             let placed = lent::step_lent(s, h, ts, cs, row as usize);
