@@ -104,7 +104,9 @@ waits-short : (rows links : List ℕ) → Small rows → Small links → Short (
 unfolding waitFields
 waits-short [] links h k = record { is = omega arith }
 waits-short (r ∷ rows) [] h k = record { is = omega arith }
-waits-short (r ∷ rows) (l ∷ links) h k = within _ _ (omega arith) (joined 4 (4 + 8 * length rows) (field-short 2 r (h r (List·Memᴰ·head refl))) (joined 4 (8 * length rows) (wait-short l (k l (List·Memᴰ·head refl))) (waits-short rows links (λ y m. h y (List·Memᴰ·tail m)) (λ y m. k y (List·Memᴰ·tail m)))))
+waits-short (r ∷ rows) (l ∷ links) h k =
+    let more = waits-short rows links (λ y m. h y (List·Memᴰ·tail m)) (λ y m. k y (List·Memᴰ·tail m)) in
+    within _ _ (omega arith) (joined 4 (4 + 8 * length rows) (field-short 2 r (h r (List·Memᴰ·head refl))) (joined 4 (8 * length rows) (wait-short l (k l (List·Memᴰ·head refl))) more))
 
 -- at most 256 rows, of three digits each
 pub record FewRows (xs : List ℕ) : Type 0 where

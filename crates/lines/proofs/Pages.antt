@@ -94,7 +94,12 @@ pub waits-next : (rows links : List ℕ) (i : ℕ) → i < length rows → i < l
 unfolding waitFields
 waits-next rows links i h k = ap (λ (xs : List ℕ). waitFields xs (drop i links)) (next rows i h) ∙ ap (waitFields (getD rows i 0 ∷ drop (i + 1) rows)) (next links i k)
 
-pub adding-wait : (b₀ : List ℕ) (e₀ : ℕ) (xs rows links b c d : List ℕ) (e f g i : ℕ) → i < length rows → length rows ≤ length links → Adding b₀ e₀ xs b e (waitFields (drop i rows) (drop i links)) → page c f ≡ added (page b e) (field (getD rows i 0)) → page d g ≡ added (page c f) (waitField (getD links i 0)) → Adding b₀ e₀ xs d g (waitFields (drop (i + 1) rows) (drop (i + 1) links))
+-- one row more, and what it waits for
+pub adding-wait : (b₀ : List ℕ) (e₀ : ℕ) (xs rows links b c d : List ℕ) (e f g i : ℕ) → i < length rows → length rows ≤ length links
+    → Adding b₀ e₀ xs b e (waitFields (drop i rows) (drop i links))
+    → page c f ≡ added (page b e) (field (getD rows i 0))
+    → page d g ≡ added (page c f) (waitField (getD links i 0))
+    → Adding b₀ e₀ xs d g (waitFields (drop (i + 1) rows) (drop (i + 1) links))
 adding-wait b₀ e₀ xs rows links b c d e f g i h k a r l = adding-more _ _ _ _ _ _ _ _ _ _ (adding-more _ _ _ _ _ _ _ _ _ _ a (waits-next rows links i h (omega (arith, h, k))) r) refl l
 
 pub waits-end : (rows links : List ℕ) (i : ℕ) → length rows ≤ i → waitFields (drop i rows) (drop i links) ≡ []

@@ -44,19 +44,23 @@ module _ (f : ℕ → ℕ) (rows : List ℕ) where
     others = λ j g. getD-set-other out i j x 0 (λ q. omega arith) ∙ t .others j (omega arith);
   }
 
+  -- past a list that stands before what is left of the buffer, the buffer is as it was
+  past-list : (xs out : List ℕ) (j : ℕ) → length xs ≤ j → getD (xs ++ drop (length xs) out) j 0 ≡ getD out j 0
+  past-list xs out j h =
+      let e : j ≡ length xs + (j - length xs) = omega arith in
+      ap (λ (k : ℕ). getD (xs ++ drop (length xs) out) k 0) e ∙ (getD-append-add xs (drop (length xs) out) (j - length xs) 0 ∙ (getD-drop (length xs) out (j - length xs) 0 ∙ ap (λ (k : ℕ). getD out k 0) (sym e)))
+
   -- all are told
   pub told-all : (i : ℕ) (out out₀ : List ℕ) → i ≡ length rows → length rows ≤ length out₀ → Told i out out₀ → out ≡ map f rows ++ drop (length rows) out₀
   told-all i out out₀ e room t =
       let m = length-map rows f in
-      let a = length-append (map f rows) (drop (length rows) out₀) in
-      let d = length-drop (length rows) out₀ in
-      ext-getD 0 out (map f rows ++ drop (length rows) out₀) (omega (arith, m, a, d, t .long))
+      let a = length-append (map f rows) (drop (length (map f rows)) out₀) in
+      let d = length-drop (length (map f rows)) out₀ in
+      rw (← m)
+      (ext-getD 0 out (map f rows ++ drop (length (map f rows)) out₀) (omega (arith, m, a, d, t .long))
       (λ j h. by-cases (decLt j (length rows))
-      (λ g. t .so-far j (omega arith) ∙ sym (List·getD-append (map f rows) (drop (length rows) out₀) 0 j (omega (arith, m)) ∙ map-getD rows j g))
-      (λ g.
-      let s : j ≡ length (map f rows) + (j - length rows) = omega (arith, m) in
-      let z : length rows + (j - length rows) ≡ j = omega arith in
-      t .others j (omega arith) ∙ sym (ap (λ (k : ℕ). getD (map f rows ++ drop (length rows) out₀) k 0) s ∙ (getD-append-add (map f rows) (drop (length rows) out₀) (j - length rows) 0 ∙ (getD-drop (length rows) out₀ (j - length rows) 0 ∙ ap (λ (k : ℕ). getD out₀ k 0) z)))))
+      (λ g. t .so-far j (omega arith) ∙ sym (List·getD-append (map f rows) (drop (length (map f rows)) out₀) 0 j (omega (arith, m)) ∙ map-getD rows j g))
+      (λ g. t .others j (omega arith) ∙ sym (past-list (map f rows) out₀ j (omega (arith, m))))))
 
 -- a row on the condition of an earlier one has its byte
 pub same-byte : (ts cs links vals rows out out₀ : List ℕ) (i j q : ℕ) → Told (byteOf ts cs links vals) rows i out out₀ → j < i → conditionIn ts (getD rows j 0) ≡ q → q ≡ conditionIn ts (getD rows i 0) → getD out j 0 ≡ byteOf ts cs links vals (getD rows i 0)

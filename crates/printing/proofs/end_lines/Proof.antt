@@ -40,10 +40,14 @@ enum-known-count : tie.Need-enum-known-count
 enum-known-count c = search needs
 
 array-share-prefix-rows : tie.Need-array-share-prefix-rows
-array-share-prefix-rows c = waited-lies _ _ (c .before .before .before .before .before .before .before .before .before .before .before .before .before .before .before .before .pre) (replicate 256 0) refl _ (c .before .before .before .before .before .standing .ensures .0 .0) _ _ (c .before .before .count .given .1) (c .before .before .before .before .before .standing .ensures .0 .1)
+array-share-prefix-rows c =
+    let b = c .before .before .before .before .before in
+    waited-lies _ _ (b .before .before .before .before .before .before .before .before .before .before .before .pre) (replicate 256 0) refl _ (b .standing .ensures .0 .0) _ _ (c .before .before .count .given .1) (b .standing .ensures .0 .1)
 
 slice-aggregate-waited-line : tie.Need-slice-aggregate-waited-line
-slice-aggregate-waited-line c = sym (length-take-le _ _ (waited-lies _ _ (c .before .before .before .before .before .before .before .before .before .before .before .before .before .before .before .before .before .pre) (replicate 256 0) refl _ (c .before .before .before .before .before .before .standing .ensures .0 .0) _ _ (c .before .before .before .count .given .1) (c .before .before .before .before .before .before .standing .ensures .0 .1)))
+slice-aggregate-waited-line c =
+    let b = c .before .before .before .before .before .before in
+    sym (length-take-le _ _ (waited-lies _ _ (b .before .before .before .before .before .before .before .before .before .before .before .pre) (replicate 256 0) refl _ (b .standing .ensures .0 .0) _ _ (c .before .before .before .count .given .1) (b .standing .ensures .0 .1)))
 
 waited-line-requires : tie.Need-waited-line-requires
 waited-line-requires c κs =

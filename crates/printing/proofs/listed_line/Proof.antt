@@ -18,10 +18,14 @@ enum-known-count : tie.Need-enum-known-count
 enum-known-count c = search needs
 
 array-share-prefix-rows : tie.Need-array-share-prefix-rows
-array-share-prefix-rows c = told-lies (listed-told _ _ (c .before .before .before .before .before .before .before .before .before .before .pre) (replicate 256 0) refl _ _ (c .before .before .before .before .before .list-steps .ensures .0)) _ (c .before .before .count .given .1)
+array-share-prefix-rows c =
+    let b = c .before .before .before .before .before in
+    told-lies (listed-told _ _ (b .before .before .before .before .before .pre) (replicate 256 0) refl _ _ (b .list-steps .ensures .0)) _ (c .before .before .count .given .1)
 
 slice-aggregate-enabled-line : tie.Need-slice-aggregate-enabled-line
-slice-aggregate-enabled-line c = sym (length-take-le _ _ (told-lies (listed-told _ _ (c .before .before .before .before .before .before .before .before .before .before .before .pre) (replicate 256 0) refl _ _ (c .before .before .before .before .before .before .list-steps .ensures .0)) _ (c .before .before .before .count .given .1)))
+slice-aggregate-enabled-line c =
+    let b = c .before .before .before .before .before .before in
+    sym (length-take-le _ _ (told-lies (listed-told _ _ (b .before .before .before .before .before .pre) (replicate 256 0) refl _ _ (b .list-steps .ensures .0)) _ (c .before .before .before .count .given .1)))
 
 enabled-line-requires : tie.Need-enabled-line-requires
 enabled-line-requires c κs = search needs
@@ -37,14 +41,17 @@ same-length c = search needs
 
 returns : tie.Need-returns
 returns c =
-    let rows = told-part (listed-told _ _ (c .before .before .before .before .before .before .before .before .before .before .before .before .before .before .pre) (replicate 256 0) refl _ _ (c .before .before .before .before .before .before .before .before .before .list-steps .ensures .0)) _ (c .before .before .before .before .before .before .count .given .1) in
+    let b = c .before .before .before .before .before .before .before .before .before in
+    let rows = told-part (listed-told _ _ (b .before .before .before .before .before .pre) (replicate 256 0) refl _ _ (b .list-steps .ensures .0)) _ (c .before .before .before .before .before .before .count .given .1) in
     c .before .before .enabled-line .ensures ∙ ap (added _) (ap (rowsLine enabledWord) rows)
 
 same-length-2 : tie.Need-same-length-2
 same-length-2 c = search needs
 
 returns-2 : tie.Need-returns-2
-returns-2 c = absurd (told-unrefused (listed-told _ _ (c .before .before .before .before .before .before .before .before .before .before .before .before .before .pre) (replicate 256 0) refl _ _ (c .before .before .before .before .before .before .before .before .list-steps .ensures .0)) _ _ (c .before .before .before .before .before .number .given .1))
+returns-2 c =
+    let b = c .before .before .before .before .before .before .before .before in
+    absurd (told-unrefused (listed-told _ _ (b .before .before .before .before .before .pre) (replicate 256 0) refl _ _ (b .list-steps .ensures .0)) _ _ (c .before .before .before .before .before .number .given .1))
 
 pub listed-line-spec : {M : Type 1} → statement M
 listed-line-spec =

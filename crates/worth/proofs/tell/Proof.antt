@@ -39,8 +39,14 @@ loop-less : tie.Need-loop-less Inv-loop μ-loop
 loop-less c = omega arith
 
 loop-again : tie.Need-loop-again Inv-loop μ-loop
-loop-again c = let l = c .before .before .before .before .before .before .before .loop in let t = l .inv .1 .1 in let h = c .before .if1 .taken in
-    (l .inv .0, (omega arith, told-more _ _ (l .i) _ (l .out) _ (omega (arith, t .long)) (same-byte (c .before .before .before .before .before .before .before .before .before .before .before .before .args .ts .now) _ _ _ _ _ _ (l .i) _ _ t h (c .before .before .told-at .ensures .1 h) (c .before .before .before .before .condition .ensures)) t))
+loop-again c =
+    let b = c .before .before .before .before in
+    let l = b .before .before .before .loop in
+    let t = l .inv .1 .1 in
+    let h = c .before .if1 .taken in
+    let ts = b .before .before .before .before .before .before .before .before .args .ts .now in
+    let e = same-byte ts _ _ _ _ _ _ (l .i) _ _ t h (c .before .before .told-at .ensures .1 h) (b .condition .ensures) in
+    (l .inv .0, (omega arith, told-more _ _ (l .i) _ (l .out) _ (omega (arith, t .long)) e t))
 
 of-row-requires : tie.Need-of-row-requires Inv-loop μ-loop
 of-row-requires c κs = rw (c .before .before .before .condition .ensures) (c .before .before .before .before .before .before .before .before .before .before .before .pre .1 _ (c .before .before .before .before .before .loop-test .taken) .1)
@@ -62,8 +68,12 @@ loop-less-2 c = omega arith
 
 loop-again-2 : tie.Need-loop-again-2 Inv-loop μ-loop
 unfolding byteAt
-loop-again-2 c = let l = c .before .before .before .before .before .before .before .before .before .before .loop in let t = l .inv .1 .1 in
-    (c .mark .ensures .size, (omega arith, told-more _ _ (l .i) _ (l .out) _ (omega (arith, t .long)) (c .before .before .byte .ensures ∙ (ap waitByte (c .before .before .before .of-row .ensures) ∙ ap (byteAt _ _ _) (c .before .before .before .before .before .before .before .condition .ensures))) t))
+loop-again-2 c =
+    let b = c .before .before .before .before .before .before .before in
+    let l = b .before .before .before .loop in
+    let t = l .inv .1 .1 in
+    let e = c .before .before .byte .ensures ∙ (ap waitByte (c .before .before .before .of-row .ensures) ∙ ap (byteAt _ _ _) (b .condition .ensures)) in
+    (c .mark .ensures .size, (omega arith, told-more _ _ (l .i) _ (l .out) _ (omega (arith, t .long)) e t))
 
 same-length : tie.Need-same-length Inv-loop μ-loop
 same-length c = c .before .loop .inv .1 .1 .long
