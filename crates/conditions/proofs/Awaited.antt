@@ -10,7 +10,7 @@ use Rattle.laws.specs.Lowest.{lowest}
 use Rattle.laws.proofs.Tests.{refuted, not-both, and-l, and-r}
 use Rattle.laws.proofs.Lowest.{lowest-below, lowest-at, lowest-is, lowest-found}
 use Rattle.calculus.specs.Status.{Value, Unset, False, True, Links}
-use Rattle.conditions.specs.Conditions.{Condition, reached, lazy, isSet, Evaluation, Strict, Lazy, value}
+use Rattle.conditions.specs.Conditions.{Condition, reached, isSet, Evaluation, Strict, Lazy, value}
 use Rattle.conditions.specs.Awaited.{lacks, awaited, Awaits}
 use Rattle.conditions.proofs.Evaluation.{none-allSet, strict-unset, strict-lazy}
 use Rattle.conditions.proofs.ByRows.{lazy-set}
@@ -21,38 +21,38 @@ is-unset False e = absurd (true≢false (sym e))
 is-unset True e = absurd (true≢false (sym e))
 
 module _ (c : Condition) (v : Links) where
-  pub lacks-both : (l : ℕ) → lacks c v l ≡ true → (reached c l ≡ true) × (v l ≡ Unset)
+  lacks-both : (l : ℕ) → lacks c v l ≡ true → (reached c l ≡ true) × (v l ≡ Unset)
   unfolding lacks
   lacks-both l e = (and-l _ _ e, is-unset (v l) (and-r (reached c l) _ e))
 
-  pub both-lacks : (l : ℕ) → reached c l ≡ true → v l ≡ Unset → lacks c v l ≡ true
+  both-lacks : (l : ℕ) → reached c l ≡ true → v l ≡ Unset → lacks c v l ≡ true
   unfolding lacks
   both-lacks l r z = rw (r, z)
 
   module _ (m : ℕ) where
-    abbrev quiet : ℕ → Bool
-    quiet l = not (lacks c v l)
+    abbrev met : ℕ → Bool
+    met l = not (lacks c v l)
 
     -- where one is found below m it is the one
     pub awaited-awaits : awaited m c v < m → Awaits c v (awaited m c v)
     unfolding awaited
     awaited-awaits h =
-        let there = lacks-both (lowest quiet 0 m) (not-false _ (lowest-at quiet 0 m (omega arith))) in
-        record { reached-there = there .0; unset-there = there .1; lowest-there = λ k r z. by-cases (decLt k (lowest quiet 0 m)) (λ g. absurd (not-both (both-lacks k r z) (not-true _ (lowest-below quiet 0 m k (omega arith) g)))) (λ g. omega arith) }
+        let there = lacks-both (lowest met 0 m) (not-false _ (lowest-at met 0 m (omega arith))) in
+        record { reached-there = there .0; unset-there = there .1; lowest-there = λ k r z. by-cases (decLt k (lowest met 0 m)) (λ g. absurd (not-both (both-lacks k r z) (not-true _ (lowest-below met 0 m k (omega arith) g)))) (λ g. omega arith) }
 
     -- ... and the one, where it is below m, is found
     pub awaits-awaited : (l : ℕ) → Awaits c v l → l < m → awaited m c v ≡ l
     unfolding awaited
     awaits-awaited l a h =
-        lowest-is quiet 0 m l (omega arith)
+        lowest-is met 0 m l (omega arith)
         (λ j f g. ap not (refuted (lacks c v j) (λ e. let le : l ≤ j = a .lowest-there j (lacks-both j e .0) (lacks-both j e .1) in omega arith)))
         (omega arith)
         (ap not (both-lacks l (a .reached-there) (a .unset-there)))
 
     -- none below m
-    pub awaited-none : (awaited m c v < m → ⊥) → (l : ℕ) → l < m → reached c l ≡ true → v l ≡ Unset → ⊥
+    awaited-none : (awaited m c v < m → ⊥) → (l : ℕ) → l < m → reached c l ≡ true → v l ≡ Unset → ⊥
     unfolding awaited
-    awaited-none h l g r z = h (let f : lowest quiet 0 m < 0 + m = lowest-found quiet 0 m l (omega arith) (omega arith) (ap not (both-lacks l r z)) in omega arith)
+    awaited-none h l g r z = h (let f : lowest met 0 m < 0 + m = lowest-found met 0 m l (omega arith) (omega arith) (ap not (both-lacks l r z)) in omega arith)
 
   -- no second link is the one
   pub awaits-one : (l l′ : ℕ) → Awaits c v l → Awaits c v l′ → l ≡ l′

@@ -1,4 +1,4 @@
--- Document 02, 5: "Where a condition is unset, evaluation also hands back the lowest unset link reached from it."
+-- Document 02, request 5: "the lowest unset link reached from" a condition.
 use Prim.Native.Nat.{ℕ, _≤_}
 use mathlib.Core.Path.{_≡_}
 use mathlib.Core.Bool.{Bool, true, not, _&&_}
@@ -14,7 +14,7 @@ lacks c v l = reached c l && not (isSet (v l))
 unfoldable pub awaited : ℕ → Condition → Links → ℕ
 awaited m c v = lowest (λ l. not (lacks c v l)) 0 m
 
--- "the lowest unset link reached from it", word for word
+-- word for word: reached, unset, and not above any other such link
 pub record Awaits (c : Condition) (v : Links) (l : ℕ) : Type 0 where
   pub reached-there : reached c l ≡ true
   pub unset-there : v l ≡ Unset

@@ -100,12 +100,12 @@ wait-short l h = at (eqb l 255)
     at true = record { is = omega arith }
     at false = field-short 2 l h
 
-waits-short : (rows links : List ℕ) → Small rows → Small links → Short (waitFields rows links) (8 * length rows)
+wait-fields-short : (rows links : List ℕ) → Small rows → Small links → Short (waitFields rows links) (8 * length rows)
 unfolding waitFields
-waits-short [] links h k = record { is = omega arith }
-waits-short (r ∷ rows) [] h k = record { is = omega arith }
-waits-short (r ∷ rows) (l ∷ links) h k =
-    let more = waits-short rows links (λ y m. h y (List·Memᴰ·tail m)) (λ y m. k y (List·Memᴰ·tail m)) in
+wait-fields-short [] links h k = record { is = omega arith }
+wait-fields-short (r ∷ rows) [] h k = record { is = omega arith }
+wait-fields-short (r ∷ rows) (l ∷ links) h k =
+    let more = wait-fields-short rows links (λ y m. h y (List·Memᴰ·tail m)) (λ y m. k y (List·Memᴰ·tail m)) in
     within _ _ (omega arith) (joined 4 (4 + 8 * length rows) (field-short 2 r (h r (List·Memᴰ·head refl))) (joined 4 (8 * length rows) (wait-short l (k l (List·Memᴰ·head refl))) more))
 
 -- at most 256 rows, of three digits each
@@ -119,7 +119,7 @@ rows-short word xs w h = joined 7 1025 w (joined 1024 1 (within (4 * length xs) 
 
 waiting-short : (rows links : List ℕ) → FewRows rows → Small links → Short (waitingLine rows links) 2056
 unfolding waitingLine
-waiting-short rows links h k = joined 7 2049 (said waitingWord) (joined 2048 1 (within (8 * length rows) 2048 (omega (arith, h .few)) (waits-short rows links (h .small) k)) (said feed))
+waiting-short rows links h k = joined 7 2049 (said waitingWord) (joined 2048 1 (within (8 * length rows) 2048 (omega (arith, h .few)) (wait-fields-short rows links (h .small) k)) (said feed))
 
 pub last-short : (a : StandingAnswer) (steps waiting links : List ℕ) → FewRows steps → FewRows waiting → Small links → Short (lastLine a steps waiting links) 2056
 unfolding lastLine finishedLine

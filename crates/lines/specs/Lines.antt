@@ -4,6 +4,7 @@ use mathlib.Core.List.{List, [], _∷_, _++_}
 use Prim.Native.Nat.{ℕ, zero, suc, _+_, _/_, _%_}
 use lib.Dec.{eqb, ltb}
 use lib.ListN.{take}
+use Rattle.worth.specs.Worth.{noLink}
 use Rattle.state.specs.declared.StepKind.{StepKind}
 use Rattle.state.specs.declared.StepKind.the-variants as kind
 use Rattle.sheet_engine.specs.declared.VerdictAnswer.{VerdictAnswer}
@@ -109,9 +110,9 @@ rowsLine word rows = word ++ (fields rows ++ feed)
 unfoldable pub finishedLine : List ℕ
 finishedLine = finishedWord ++ feed
 
--- Document 02, request 5: ""waiting" lines print each row followed by its link, or by "-" where the condition is false." 255 stands for the latter.
+-- Document 02, request 5: ""waiting" lines print each row followed by its link, or by "-" where the condition is false." The byte of the latter is `noLink`.
 unfoldable pub waitField : ℕ → List ℕ
-waitField l = cond (eqb l 255) (32 ∷ (45 ∷ [])) (field l)
+waitField l = cond (eqb l noLink) (32 ∷ (45 ∷ [])) (field l)
 
 unfoldable pub waitFields : List ℕ → List ℕ → List ℕ
 waitFields [] links = []

@@ -203,7 +203,7 @@ pub fn enabled_line(out: &mut [u8], at: usize, rows: &[u8]) -> usize
 fn link_waited(out: &mut [u8], at: usize, l: u8) -> usize
     ensures { λ r. ⌜ page (now (out .exit)) r ≡ added (page (now (out .entry)) at) (waitField l) ⌝ }
 {
-    if l == 255 {
+    if l == worth::NO_LINK {
         return text(out, at, b" -");
     }
     small_number(out, at, l)

@@ -2,13 +2,14 @@
 use Prim.Native.Nat.{ℕ, _<_, _≤_}
 use mathlib.Core.Path.{_≡_, refl, sym}
 use mathlib.Core.Bool.{true, false, true≢false}
-use mathlib.Core.List.{List, [], _∷_, map, cons≢nil, List·Memᴰ, List·Memᴰ·head, List·Memᴰ·tail, List·Memᴰ·not-nil}
+use mathlib.Core.List.{List, [], _∷_, map, cons≢nil, List·Memᴰ, List·Memᴰ·not-nil}
 use mathlib.Core.Logic.{_⊎_, inl, inr, ⊎-elim, _↔_}
 use native.Mathlib.Omega.{arith}
 use lib.ListN.{length, length-map}
 use borrow.Author.Tests.{ltb-true}
 use Rattle.laws.specs.Listed.{Rising}
 use Rattle.laws.proofs.Tests.{and-l, and-r, refuted, not-both}
+use Rattle.laws.proofs.Members.{map-same}
 use Rattle.laws.proofs.Lowest.{lowest-upto}
 use Rattle.laws.proofs.Listed.{listed-has, listed-holds, listed-length, listed-rising, none-listed, some-listed}
 use Rattle.calculus.specs.Process.{Process, nil, prefix, branch, Prefix, act, out, join}
@@ -28,11 +29,6 @@ use Rattle.state.specs.declared.State.{State}
 use Rattle.moves.specs.Steps.{modeOf, marksOf, linksOf, nodes, leftIn, turnBy, turnAt, isSome, hasStep, listedOf}
 use Rattle.moves.specs.Standing.{joinInFront, joinsOf, waitingBy, waitingOf, awaitedOf, awaitsOf, joinCondition, joinValue, Waits, bare}
 use Rattle.moves.proofs.Allowed.{listed-rows}
-
--- two functions that agree on a list give the same of it
-map-same : (f g : ℕ → ℕ) (xs : List ℕ) → ((x : ℕ) → List·Memᴰ x xs → f x ≡ g x) → map f xs ≡ map g xs
-map-same f g [] h = refl
-map-same f g (x ∷ xs) h = rw (h x (List·Memᴰ·head refl), map-same f g xs (λ y m. h y (List·Memᴰ·tail m))) refl
 
 module _ (t : Table) (s : State) where
   pub join-below : (r : ℕ) → joinInFront t s r ≡ true → r < t .n

@@ -1,4 +1,4 @@
--- Document 02, request 1: "With no step listed, a state is finished if no JOIN row is in front, and otherwise waiting." The rows that it waits for, request 5: which link each waits for, and what "finished" has to mean. Total: any table, any state.
+-- Document 02, request 1: "With no step listed, a state is finished if no JOIN row is in front, and otherwise waiting." The rows that it waits for, and what "finished" has to mean. Request 5: which link each of these rows waits for. Total: any table, any state.
 use mathlib.Core.Bool.{Bool, true, false, _&&_}
 use mathlib.Core.List.{List, [], _∷_, map}
 use mathlib.Core.Logic.{_⊎_}
@@ -13,7 +13,7 @@ use Rattle.conditions.specs.Awaited.{Awaits}
 use Rattle.steps.specs.Rows.{isJoin, conditionOf}
 use Rattle.steps.specs.InFront.{inFront}
 use Rattle.sheet.specs.Table.{Table, conditionRowAt, evalIn}
-use Rattle.worth.specs.Worth.{worthIn, waitByte}
+use Rattle.worth.specs.Worth.{worthIn, noLink, waitByte}
 use Rattle.state.specs.declared.State.{State}
 use Rattle.moves.specs.Steps.{modeOf, marksOf, linksOf, nodes, listedOf}
 
@@ -33,7 +33,7 @@ waitingBy (r ∷ steps) joins = []
 unfoldable pub waitingOf : Table → State → List ℕ
 waitingOf t s = waitingBy (listedOf t s) (joinsOf t s)
 
--- "each row followed by its link, or by "-" where the condition is false": the link, or 255
+-- "each row followed by its link, or by "-" where the condition is false": the link, or `noLink`
 unfoldable pub awaitedOf : Table → State → ℕ → ℕ
 awaitedOf t s r = waitByte (worthIn t (conditionOf (nodes t r)) (linksOf s))
 
@@ -54,10 +54,10 @@ pub record WaitsForLink (t : Table) (s : State) (r b : ℕ) : Type 0 where
   pub the-link : Awaits (joinCondition t r) (linksOf s) b
   pub one-of-m : b < t .m
 
--- ... or for none: "the condition is false", and only a plain state waits for such a row, for one that cleans takes it
+-- ... or for none: "the condition is false", and the state is plain: with cleaning such a row has a step
 pub record WaitsForNone (t : Table) (s : State) (r b : ℕ) : Type 0 where
   pub is-false : joinValue t s r ≡ False
-  pub no-link : b ≡ 255
+  pub no-link : b ≡ noLink
   pub is-plain : modeOf (s .mode) ≡ plain
 
 abbrev pub Waits : Table → State → ℕ → ℕ → Type 0

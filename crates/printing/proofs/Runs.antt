@@ -42,30 +42,30 @@ module _ (found lent rows : List ℕ) (count : ℕ) (counted : count ≡ length 
   part = ap (take count) are ∙ take-at found (drop (length found) lent) count (sym counted)
 
 -- a call told how many bytes it found, and left them at the front of a lent buffer
-pub record Told (found lent : List ℕ) (answer : SizeAnswer) (left : List ℕ) : Type 0 where
+pub record Fetched (found lent : List ℕ) (answer : SizeAnswer) (left : List ℕ) : Type 0 where
   pub number : answer ≡ size.Size (length found)
   pub front : left ≡ found ++ drop (length found) lent
 
-module _ {found lent left : List ℕ} {answer : SizeAnswer} (told : Told found lent answer left) where
-  pub told-lies : (count : ℕ) → answer ≡ size.Size count → count ≤ length left
-  told-lies count is = lies found lent left count (ap countOf (sym is ∙ told .number)) (told .front)
+module _ {found lent left : List ℕ} {answer : SizeAnswer} (told : Fetched found lent answer left) where
+  pub fetched-lies : (count : ℕ) → answer ≡ size.Size count → count ≤ length left
+  fetched-lies count is = lies found lent left count (ap countOf (sym is ∙ told .number)) (told .front)
 
-  pub told-part : (count : ℕ) → answer ≡ size.Size count → take count left ≡ found
-  told-part count is = part found lent left count (ap countOf (sym is ∙ told .number)) (told .front)
+  pub fetched-part : (count : ℕ) → answer ≡ size.Size count → take count left ≡ found
+  fetched-part count is = part found lent left count (ap countOf (sym is ∙ told .number)) (told .front)
 
-  pub told-unrefused : (n p : ℕ) → answer ≡ size.Refused n p → ⊥
-  told-unrefused n p is = size-unrefused _ n p (sym is ∙ told .number)
+  pub fetched-unrefused : (n p : ℕ) → answer ≡ size.Refused n p → ⊥
+  fetched-unrefused n p is = size-unrefused _ n p (sym is ∙ told .number)
 
 -- a buffer of 256 bytes takes every list
 module _ (t : Table) (s : State) (a : Accepted t s) (lent : List ℕ) (long : length lent ≡ 256) where
   free : refusal t s .number ≡ 0
   free = unrefused t s a
 
-  pub listed-told : (answer : SizeAnswer) (left : List ℕ) → (answer ≡ listAnswer t s (length lent)) × (left ≡ listBuffer t s lent) → Told (listedOf t s) lent answer left
-  listed-told answer left (e, f) = let (c, b) = list-answers t s free lent (omega (arith, few-listed t s free, long)) in record { number = e ∙ c; front = f ∙ b }
+  pub listed-fetched : (answer : SizeAnswer) (left : List ℕ) → (answer ≡ listAnswer t s (length lent)) × (left ≡ listBuffer t s lent) → Fetched (listedOf t s) lent answer left
+  listed-fetched answer left (e, f) = let (c, b) = list-answers t s free lent (omega (arith, few-listed t s free, long)) in record { number = e ∙ c; front = f ∙ b }
 
-  pub waits-told : (answer : SizeAnswer) (left : List ℕ) → (answer ≡ waitsAnswer t s (length lent)) × (left ≡ waitsBuffer t s lent) → Told (awaitsOf t s) lent answer left
-  waits-told answer left (e, f) = let (c, b) = waits-is t s free lent (omega (arith, few-awaited t s free, long)) in record { number = e ∙ c; front = f ∙ b }
+  pub waits-fetched : (answer : SizeAnswer) (left : List ℕ) → (answer ≡ waitsAnswer t s (length lent)) × (left ≡ waitsBuffer t s lent) → Fetched (awaitsOf t s) lent answer left
+  waits-fetched answer left (e, f) = let (c, b) = waits-is t s free lent (omega (arith, few-awaited t s free, long)) in record { number = e ∙ c; front = f ∙ b }
 
   -- ... and every row that is waited for
   standing-told : (standingAnswer t s (length lent) ≡ standingOf t s) × (standingBuffer t s lent ≡ waitingOf t s ++ drop (length (waitingOf t s)) lent)

@@ -1,31 +1,33 @@
 -- DOCUMENT 02, REQUEST 5: which link a join waits for, over what evaluation hands back and what `standing` and `waits_for` answer. Assumes nothing.
-use Prim.Native.Nat.{ℕ, zero, suc, _<_, _≤_}
+use Prim.Native.Nat.{ℕ, _<_, _≤_}
 use mathlib.Core.Path.{_≡_, refl, sym, _∙_, ap, subst, fun-ext}
 use mathlib.Core.Bool.{true, false, true≢false}
-use mathlib.Core.List.{List, [], _∷_, map, List·Memᴰ, List·Memᴰ·head, List·Memᴰ·tail}
+use mathlib.Core.List.{List}
 use mathlib.Core.Logic.{⊎-elim, by-cases, _↔_}
 use native.Mathlib.Omega.{arith}
 use native.Mathlib.Decide.{ℕ-discrete}
 use lib.ListN.{length, getD}
+use Rattle.laws.proofs.Members.{member-at, map-at}
 use Rattle.calculus.specs.Process.{Process}
 use Rattle.calculus.specs.Status.{Value, Unset, False, Links}
-use Rattle.calculus.specs.Order.{Condition2}
 use Rattle.calculus.specs.Plain.{Label}
 use Rattle.calculus.specs.Places.{plain, cleans}
 use Rattle.calculus.specs.Rules.{Rule}
 use Rattle.conditions.specs.Conditions.{condition, isSet}
 use Rattle.conditions.specs.Awaited.{Awaits}
-use Rattle.sheet.specs.Table.{Table, conditionRowAt, evalIn}
+use Rattle.steps.specs.Verdict.{SheetPasses}
+use Rattle.sheet.specs.Table.{Table, rowAt, conditionRowAt, evalIn}
 use Rattle.sheet.specs.Rules.{refusalOf}
 use Rattle.sheet.proofs.Accepted.{meets, well-formed}
 use Rattle.worth.specs.declared.Worth.the-variants as worth
-use Rattle.worth.specs.Worth.{valueOf, awaitedAt, worthOf, worthIn}
+use Rattle.worth.specs.Worth.{noLink, valueOf, awaitedAt, worthOf, worthIn}
 use Rattle.worth.proofs.Values.{worth-value, worth-unset}
 use Rattle.state.specs.declared.State.{State}
 use Rattle.moves.specs.Steps.{modeOf, linksOf, leftIn}
 use Rattle.moves.specs.Standing.{waitingOf, awaitedOf, awaitsOf, joinValue, WaitsForLink, WaitsForNone, Waits}
 use Rattle.moves.proofs.Standing.{row-waits, awaits-length}
-use Rattle.promises.specs.Calls.{Accepted, waitingRows, awaitedIn, awaitedBytes, Allowed}
+use Rattle.promises.specs.Calls.{Accepted, Passes, waitingRows, awaitedIn, awaitedBytes, Allowed}
+use Rattle.promises.proofs.Demand2.{pass-exactly}
 use Rattle.promises.proofs.Calls.{formed, refusal, unrefused, waiting-are, awaited-are, awaited-any}
 -- ... no second link is the lowest
 pub use Rattle.conditions.proofs.Awaited.{awaits-one}
@@ -38,9 +40,9 @@ value-part t = fun-ext (λ q. fun-ext (λ v. worth-value (t .evaluation) (t .con
 pub steps-read : (t : Table) (s : State) (α : Label) (P : Process) (v : Links) → Rule (λ q v. valueOf (worthIn t q v)) (modeOf (s .mode)) (leftIn t s) (linksOf s) α P v ≡ Allowed t s α P v
 steps-read t s α P v = ap (λ (e : ℕ → Links → Value). Rule e (modeOf (s .mode)) (leftIn t s) (linksOf s) α P v) (value-part t)
 
--- ... and the verdict asks the same of a condition
-pub verdict-reads : (t : Table) (q : ℕ) → Condition2 (λ v. valueOf (worthIn t q v)) ≡ Condition2 (evalIn t q)
-verdict-reads t q = ap (λ (e : ℕ → Links → Value). Condition2 (e q)) (value-part t)
+-- ... and the verdict is pass exactly if the table is accepted and every JOIN's condition passes by it
+pub verdict-reads : (t : Table) → Passes t ↔ ((refusalOf t .number ≡ 0) × SheetPasses (λ q v. valueOf (worthIn t q v)) (rowAt (t .terms)) (t .n))
+verdict-reads t = subst (λ (e : ℕ → Links → Value). Passes t ↔ ((refusalOf t .number ≡ 0) × SheetPasses e (rowAt (t .terms)) (t .n))) (sym (value-part t)) (pass-exactly t)
 
 -- "Where a condition is unset, evaluation also hands back the lowest unset link reached from it": of an accepted table, under both evaluations, at any links, exactly there, and that link
 module _ (t : Table) (accepted : refusalOf t .number ≡ 0) (q : ℕ) (inside : q < t .k) (v : Links) where
@@ -56,12 +58,6 @@ module _ (t : Table) (accepted : refusalOf t .number ≡ 0) (q : ℕ) (inside : 
 -- every buffer that is long enough holds the same bytes
 pub awaited-in-any : (t : Table) (s : State) (lent : List ℕ) → length (awaitedBytes t s) ≤ length lent → awaitedIn t s lent ≡ awaitedBytes t s
 awaited-in-any = awaited-any
-
--- a list, place by place
-map-at : (f : ℕ → ℕ) (xs : List ℕ) (i : ℕ) → i < length xs → (getD (map f xs) i 0 ≡ f (getD xs i 0)) × List·Memᴰ (getD xs i 0) xs
-map-at f [] i h = absurd (omega arith)
-map-at f (x ∷ xs) zero h = (refl, List·Memᴰ·head refl)
-map-at f (x ∷ xs) (suc i) h = let (e, m) = map-at f xs i (omega arith) in (e, List·Memᴰ·tail m)
 
 -- a mode of a state that is accepted, by its number
 mode-plain : (m : ℕ) → m ≤ 1 → modeOf m ≡ plain → m ≡ 0
@@ -89,7 +85,7 @@ module _ (t : Table) (s : State) (accepted : Accepted t s) where
     unfolding awaitsOf
     each-waits =
         rw (awaited-are t s free, waiting-are t s free)
-        (let (e, m) = map-at (awaitedOf t s) (waitingOf t s) i (rw (waiting-are t s free) at inside) in subst (Waits t s (getD (waitingOf t s) i 0)) (sym e) (row-waits t (formed accepted) s _ m))
+        (let h = rw (waiting-are t s free) at inside in subst (Waits t s (getD (waitingOf t s) i 0)) (sym (map-at (awaitedOf t s) (waitingOf t s) i h)) (row-waits t (formed accepted) s _ (member-at (waitingOf t s) i h)))
 
     -- a link of the sheet is told exactly where the condition is unset
     pub link-exactly : (byte < t .m) ↔ (joinValue t s row ≡ Unset)
@@ -100,7 +96,7 @@ module _ (t : Table) (s : State) (accepted : Accepted t s) where
         each-waits
 
     -- 255, which is no link of any sheet, exactly where it is false
-    pub none-exactly : (byte ≡ 255) ↔ (joinValue t s row ≡ False)
+    pub none-exactly : (byte ≡ noLink) ↔ (joinValue t s row ≡ False)
     none-exactly =
         ⊎-elim
         (λ (w : WaitsForLink t s row byte). ((λ h. absurd (let f : t .m ≤ 64 = formed accepted .few-links in omega (arith, w .one-of-m))), λ e. absurd (true≢false (ap isSet (sym e ∙ w .is-unset)))))
@@ -108,7 +104,7 @@ module _ (t : Table) (s : State) (accepted : Accepted t s) where
         each-waits
 
     -- "-" stands only in plain mode
-    pub none-plain : byte ≡ 255 → s .mode ≡ 0
+    pub none-plain : byte ≡ noLink → s .mode ≡ 0
     none-plain e =
         ⊎-elim
         (λ (w : WaitsForLink t s row byte). absurd (let f : t .m ≤ 64 = formed accepted .few-links in omega (arith, w .one-of-m)))

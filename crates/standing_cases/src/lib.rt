@@ -51,11 +51,18 @@ fn read_told(file: i32, length: usize, linked: bool) -> Told {
         return told_refused(number, place);
     }
     let word = byte(file);
-    told_word(word, rows_told(length, linked), 0)
+    let x = rows_told(length, linked);
+    Told {
+        number,
+        place,
+        word,
+        x,
+        y: 0,
+    }
 }
 
-// No state waits for more rows.
-fn few(count: usize) -> usize
+// At most 256: no state waits for more rows.
+fn at_most_256(count: usize) -> usize
     ensures { λ r. ⌜ r ≤ 256 ⌝ }
 {
     if 256 < count {
@@ -68,7 +75,7 @@ fn few(count: usize) -> usize
 fn read_rows(file: i32, count: usize, linked: bool, rows: &mut [u8; 256], links: &mut [u8; 256])
     requires { ⌜ (length (now rows) ≡ 256) × (length (now links) ≡ 256) ⌝ }
 {
-    let end = few(count);
+    let end = at_most_256(count);
     let mut i = 0;
     while i < end {
         rows[i] = byte(file);
@@ -81,9 +88,9 @@ fn read_rows(file: i32, count: usize, linked: bool, rows: &mut [u8; 256], links:
     }
 }
 
-// One of the two calls with a buffer.
-fn called(links: bool, s: State, h: Head, ts: &[u8], cs: &[u8], out: &mut [u8]) -> Told {
-    if links {
+// One of the two calls with a buffer: what is waited for, or how the state stands.
+fn called(of_links: bool, s: State, h: Head, ts: &[u8], cs: &[u8], out: &mut [u8]) -> Told {
+    if of_links {
         return told_size(sheet_engine::waits_for(s, h, ts, cs, out));
     }
     told_answer(sheet_engine::standing(s, h, ts, cs, out))
@@ -91,7 +98,7 @@ fn called(links: bool, s: State, h: Head, ts: &[u8], cs: &[u8], out: &mut [u8]) 
 
 // The call with so much lent: what it answers, and all that the buffer holds after it.
 fn call_agrees(
-    links: bool,
+    of_links: bool,
     s: State,
     h: Head,
     ts: &[u8],
@@ -102,14 +109,14 @@ fn call_agrees(
 ) -> bool {
     let mut buffer = [cases::BLANK; 256];
     let out = cases::lend(&mut buffer, room);
-    let told = called(links, s, h, ts, cs, out);
+    let told = called(of_links, s, h, ts, cs, out);
     let after = first(filled, out.len());
     same_told(told, expected) & check::same(out, after)
 }
 
 // What is asked of a buffer of that length: where it is too short for the rows, 12 and their number, and it stays as it was.
 fn room_agrees(
-    links: bool,
+    of_links: bool,
     s: State,
     h: Head,
     ts: &[u8],
@@ -121,9 +128,9 @@ fn room_agrees(
     let rows = expected.x;
     if room < rows {
         let short = told_refused(12, rows);
-        return call_agrees(links, s, h, ts, cs, room, short, &[cases::BLANK; 256]);
+        return call_agrees(of_links, s, h, ts, cs, room, short, &[cases::BLANK; 256]);
     }
-    call_agrees(links, s, h, ts, cs, room, expected, filled)
+    call_agrees(of_links, s, h, ts, cs, room, expected, filled)
 }
 
 // One less; 0 where there is none.
@@ -136,7 +143,7 @@ fn below(count: usize) -> usize {
 
 // A call, with buffers of four lengths; behind what is told, a buffer holds what it held before.
 fn rooms_agree(
-    links: bool,
+    of_links: bool,
     s: State,
     h: Head,
     ts: &[u8],
@@ -146,10 +153,10 @@ fn rooms_agree(
     filled: &[u8; 256],
 ) -> bool {
     let rows = expected.x;
-    room_agrees(links, s, h, ts, cs, room, expected, filled)
-        & room_agrees(links, s, h, ts, cs, 256, expected, filled)
-        & room_agrees(links, s, h, ts, cs, rows, expected, filled)
-        & room_agrees(links, s, h, ts, cs, below(rows), expected, filled)
+    room_agrees(of_links, s, h, ts, cs, room, expected, filled)
+        & room_agrees(of_links, s, h, ts, cs, 256, expected, filled)
+        & room_agrees(of_links, s, h, ts, cs, rows, expected, filled)
+        & room_agrees(of_links, s, h, ts, cs, below(rows), expected, filled)
 }
 
 // The output of a case, beside the answers of both calls; of the one alone where the file has no links.

@@ -12,9 +12,9 @@ use borrow.Author.Tests.{eq-eqb, ne-eqb, lt-ltb, le-ltb, ltb-true, not-true}
 use Rattle.laws.specs.Tests.{or}
 use Rattle.laws.specs.Up.{below}
 use Rattle.laws.specs.Lowest.{lowest}
-use Rattle.laws.proofs.Tests.{cases, self, not-both, refuted, and-l, and-r, and-false, or-none}
+use Rattle.laws.proofs.Tests.{cases, self, not-both, refuted, and-l, and-r, and-false, or-none, or-r, or-twice, or-swap, or-both, or-right}
 use Rattle.laws.proofs.Up.{below-in, below-out}
-use Rattle.laws.proofs.Lowest.{lowest-is, lowest-none, lowest-below, lowest-from}
+use Rattle.laws.proofs.Lowest.{lowest-is, lowest-none, lowest-below}
 use Rattle.calculus.specs.Status.{Links}
 use Rattle.conditions.specs.Conditions.{Condition, constant, ConditionRow, FALSE, TRUE, LINK, OP, conditionBy, condition, reached, isSet}
 use Rattle.conditions.specs.Numbers.{undigit}
@@ -22,36 +22,16 @@ use Rattle.conditions.specs.Awaited.{lacks, awaited}
 use Rattle.conditions.proofs.Evaluation.{condition-at}
 use Rattle.sheet.specs.Table.{conditionRowAt}
 use Rattle.evaluate.specs.Values.{linksIn}
-use Rattle.worth.specs.Sets.{placed, marked, Marks}
+use Rattle.worth.specs.Sets.{placed, inSet, Adds}
 use Rattle.worth.specs.Worth.{awaitedAt}
 use Rattle.worth.specs.Pass.{isOperand, lowerBy, lowered}
-use Rattle.worth.proofs.Places.{marked-none, or-right}
+use Rattle.worth.proofs.Places.{none-in, next-after}
 
 set-byte : (x : ℕ) → (x ≡ 0 → ⊥) → isSet (undigit x) ≡ true
 unfolding undigit
 set-byte zero h = absurd (h refl)
 set-byte (suc zero) h = refl
 set-byte (suc (suc x)) h = refl
-
-or-twice : (b x p : Bool) → or x p ≡ or x (or (b && x) p)
-unfolding or
-or-twice b true p = refl
-or-twice true false p = refl
-or-twice false false p = refl
-
-or-swap : (x y p : Bool) → or x (or y p) ≡ or y (or x p)
-unfolding or
-or-swap true true p = refl
-or-swap true false p = refl
-or-swap false true p = refl
-or-swap false false p = refl
-
-or-both : (x y p : Bool) → or (or x y) p ≡ or y (or x p)
-unfolding or
-or-both true true p = refl
-or-both true false p = refl
-or-both false true p = refl
-or-both false false p = refl
 
 -- a link that is not lower does not count
 pub lower-over : (v : Links) (l low : ℕ) → low ≤ l → lowerBy v l low ≡ low
@@ -74,7 +54,7 @@ module _ (rows : ℕ → ConditionRow) where
   abbrev operand : ℕ → ℕ → Condition
   operand i = below (constant false) (condition rows) i
 
-  -- the link is reached from a marked row below i
+  -- the link is reached from a inSet row below i
   unfoldable pub pending : (ℕ → Bool) → ℕ → ℕ → Bool
   pending M zero l = false
   pending M (suc i) l = or (M i && reached (condition rows i) l) (pending M i l)
@@ -115,11 +95,6 @@ module _ (rows : ℕ → ConditionRow) where
   abbrev more : (ℕ → Bool) → ℕ → ℕ → Bool
   more M a j = or (M j) (eqb j a)
 
-  or-true : (b : Bool) → or b true ≡ true
-  unfolding or
-  or-true true = refl
-  or-true false = refl
-
   pending-more : (M : ℕ → Bool) (a l i : ℕ) → pending (more M a) i l ≡ or (reached (operand i a) l) (pending M i l)
   unfolding pending or
   pending-more M a l zero = rw (reached-out 0 a l (omega arith))
@@ -127,7 +102,7 @@ module _ (rows : ℕ → ConditionRow) where
     where
       new : pending (more M a) i l ≡ or (reached (operand i a) l) (pending M i l) → i ≡ a → pending (more M a) (suc i) l ≡ or (reached (operand (suc i) a) l) (pending M (suc i) l)
       new ih e =
-          ap₂ or (ap (λ (b : Bool). b && reached (condition rows i) l) (ap (or (M i)) (eq-eqb i a e) ∙ or-true (M i)))
+          ap₂ or (ap (λ (b : Bool). b && reached (condition rows i) l) (or-r (M i) (eq-eqb i a e)))
           (ih ∙ ap (λ (b : Bool). or b (pending M i l)) (reached-out i a l (omega arith)))
           ∙ (or-twice (M i) (reached (condition rows i) l) (pending M i l)
           ∙ ap (λ (b : Bool). or b (pending M (suc i) l)) (ap (λ (j : ℕ). reached (condition rows j) l) e ∙ sym (reached-in (suc i) a l (omega arith))))
@@ -138,7 +113,7 @@ module _ (rows : ℕ → ConditionRow) where
           (ih ∙ ap (λ (b : Bool). or b (pending M i l)) (operand-next i a l e))
           ∙ or-swap (M i && reached (condition rows i) l) (reached (operand (suc i) a) l) (pending M i l)
 
-  -- what a marked row adds
+  -- what a inSet row adds
   pending-marked : (M : ℕ → Bool) (i l : ℕ) → M i ≡ true → pending M (suc i) l ≡ or (reached (conditionBy (rows i) (operand i)) l) (pending M i l)
   unfolding pending
   pending-marked M i l e = ap₂ (λ (b : Bool) (c : Condition). or (b && reached c l) (pending M i l)) e (condition-at rows i)
@@ -147,22 +122,22 @@ module _ (rows : ℕ → ConditionRow) where
     abbrev unmet : ℕ → Bool
     unmet l = not (isSet (v l))
 
-    -- The pass has come to row i: the lowest so far is a link that the condition lacks, and of the links below it those are lacking that are unset and reached from a marked row still to come.
-    pub record Passed (i : ℕ) (M : ℕ → Bool) (low : ℕ) : Type 0 where
+    -- The pass has come to row i: the lowest so far is a link that the condition lacks, and of the links below it those are lacking that are unset and reached from a inSet row still to come.
+    pub record Sought (i : ℕ) (M : ℕ → Bool) (low : ℕ) : Type 0 where
       pub small : low ≤ 64
       pub hit : low < 64 → lacks c v low ≡ true
       pub rest : (l : ℕ) → l < low → lacks c v l ≡ (pending M i l && unmet l)
 
     -- what is still to come may be told by other marks, and from another row on
-    pub passed-same : (i j : ℕ) (M M′ : ℕ → Bool) (low : ℕ) → ((l : ℕ) → l < low → (pending M i l && unmet l) ≡ (pending M′ j l && unmet l)) → Passed i M low → Passed j M′ low
-    passed-same i j M M′ low h p = record { small = p .small; hit = p .hit; rest = λ l g. p .rest l g ∙ h l g }
+    sought-same : (i j : ℕ) (M M′ : ℕ → Bool) (low : ℕ) → ((l : ℕ) → l < low → (pending M i l && unmet l) ≡ (pending M′ j l && unmet l)) → Sought i M low → Sought j M′ low
+    sought-same i j M M′ low h p = record { small = p .small; hit = p .hit; rest = λ l g. p .rest l g ∙ h l g }
 
-    module _ (i : ℕ) (M : ℕ → Bool) (low : ℕ) (p : Passed (suc i) M low) where
-      -- a marked row: its own link counts, its operands are marked
-      by-row : (N : ConditionRow) → ((l : ℕ) → pending M (suc i) l ≡ or (reached (conditionBy N (operand i)) l) (pending M i l)) → Passed i (λ j. or (M j) (isOperand N j)) (lowered N v low)
+    module _ (i : ℕ) (M : ℕ → Bool) (low : ℕ) (p : Sought (suc i) M low) where
+      -- a inSet row: its own link counts, its operands are inSet
+      by-row : (N : ConditionRow) → ((l : ℕ) → pending M (suc i) l ≡ or (reached (conditionBy N (operand i)) l) (pending M i l)) → Sought i (λ j. or (M j) (isOperand N j)) (lowered N v low)
       unfolding isOperand lowered lowerBy conditionBy reached or
-      by-row FALSE h = passed-same (suc i) i M (λ j. or (M j) false) low (λ l g. ap (λ (b : Bool). b && unmet l) (h l ∙ pending-same M (λ j. or (M j) false) i l (λ j k. sym (or-none (M j))))) p
-      by-row TRUE h = passed-same (suc i) i M (λ j. or (M j) false) low (λ l g. ap (λ (b : Bool). b && unmet l) (h l ∙ pending-same M (λ j. or (M j) false) i l (λ j k. sym (or-none (M j))))) p
+      by-row FALSE h = sought-same (suc i) i M (λ j. or (M j) false) low (λ l g. ap (λ (b : Bool). b && unmet l) (h l ∙ pending-same M (λ j. or (M j) false) i l (λ j k. sym (or-none (M j))))) p
+      by-row TRUE h = sought-same (suc i) i M (λ j. or (M j) false) low (λ l g. ap (λ (b : Bool). b && unmet l) (h l ∙ pending-same M (λ j. or (M j) false) i l (λ j k. sym (or-none (M j))))) p
       by-row (LINK k) h = ⊎-elim lowers keeps (cases (ltb k low && unmet k))
         where
           M′ : ℕ → Bool
@@ -175,80 +150,80 @@ module _ (rows : ℕ → ConditionRow) where
           other : (l : ℕ) → (l ≡ k → ⊥) → pending M (suc i) l ≡ pending M′ i l
           other l ne = h l ∙ (ap (λ (b : Bool). or b (pending M i l)) (ne-eqb l k ne) ∙ as-before l)
 
-          lowers : (ltb k low && unmet k) ≡ true → Passed i M′ (cond (ltb k low && unmet k) k low)
+          lowers : (ltb k low && unmet k) ≡ true → Sought i M′ (cond (ltb k low && unmet k) k low)
           lowers e =
               let under : k < low = ltb-true k low (and-l _ _ e) in
               let there : pending M (suc i) k ≡ true = h k ∙ ap (λ (b : Bool). or b (pending M i k)) (self k) in
               rw e (record { small = omega (arith, p .small); hit = λ g. p .rest k under ∙ ap₂ _&&_ there (and-r (ltb k low) _ e); rest = λ l g. p .rest l (omega arith) ∙ ap (λ (b : Bool). b && unmet l) (other l (λ q. omega arith)) })
 
-          keeps : (ltb k low && unmet k) ≡ false → Passed i M′ (cond (ltb k low && unmet k) k low)
-          keeps e = rw e (passed-same (suc i) i M M′ low (λ l g. by-cases (ℕ-discrete l k) (λ q. settled l g q) (λ q. ap (λ (b : Bool). b && unmet l) (other l q))) p)
+          keeps : (ltb k low && unmet k) ≡ false → Sought i M′ (cond (ltb k low && unmet k) k low)
+          keeps e = rw e (sought-same (suc i) i M M′ low (λ l g. by-cases (ℕ-discrete l k) (λ q. settled l g q) (λ q. ap (λ (b : Bool). b && unmet l) (other l q))) p)
             where
               settled : (l : ℕ) → l < low → l ≡ k → (pending M (suc i) l && unmet l) ≡ (pending M′ i l && unmet l)
               settled l g q =
                   let set : unmet l ≡ false = refuted (unmet l) (λ z. not-both (ap₂ _&&_ (lt-ltb k low (omega arith)) (ap unmet (sym q) ∙ z)) e) in
                   rw set (and-false (pending M (suc i) l) ∙ sym (and-false (pending M′ i l)))
       by-row (OP o a b) h =
-          passed-same (suc i) i M (λ j. or (M j) (or (eqb j a) (eqb j b))) low
+          sought-same (suc i) i M (λ j. or (M j) (or (eqb j a) (eqb j b))) low
           (λ l g. ap (λ (x : Bool). x && unmet l) (h l ∙ or-both (reached (operand i a) l) (reached (operand i b) l) (pending M i l) ∙ sym (marks l))) p
         where
           marks : (l : ℕ) → pending (λ j. or (M j) (or (eqb j a) (eqb j b))) i l ≡ or (reached (operand i b) l) (or (reached (operand i a) l) (pending M i l))
           marks l = pending-same _ (more (more M a) b) i l (λ j g. sym (or-right (M j) (eqb j a) (eqb j b))) ∙ (pending-more (more M a) b l i ∙ ap (or (reached (operand i b) l)) (pending-more M a l i))
 
 module _ (cs : List ℕ) where
-  abbrev rowsIn : ℕ → ConditionRow
-  rowsIn = conditionRowAt cs
+  abbrev conditionRows : ℕ → ConditionRow
+  conditionRows = conditionRowAt cs
 
   -- the pass begins at the row that is asked for
-  pub passed-none : (row : ℕ) (v : Links) (rows : List ℕ) → row < 256 → Marks (λ r. eqb r row) (replicate 4 0) rows → Passed rowsIn (condition rowsIn row) v (256 - (255 - row)) (marked rows) 64
+  pub sought-none : (row : ℕ) (v : Links) (rows : List ℕ) → row < 256 → Adds (λ r. eqb r row) (replicate 4 0) rows → Sought conditionRows (condition conditionRows row) v (256 - (255 - row)) (inSet rows) 64
   unfolding lacks
-  passed-none row v rows h m = record { small = omega arith; hit = λ g. absurd (omega arith); rest = λ l g. ap (λ (b : Bool). b && not (isSet (v l))) (sym (all l)) }
+  sought-none row v rows h m = record { small = omega arith; hit = λ g. absurd (omega arith); rest = λ l g. ap (λ (b : Bool). b && not (isSet (v l))) (sym (all l)) }
     where
-      all : (l : ℕ) → pending rowsIn (marked rows) (256 - (255 - row)) l ≡ reached (condition rowsIn row) l
+      all : (l : ℕ) → pending conditionRows (inSet rows) (256 - (255 - row)) l ≡ reached (condition conditionRows row) l
       all l =
           let e : 256 - (255 - row) ≡ suc row = omega arith in
-          ap (λ (k : ℕ). pending rowsIn (marked rows) k l) e
-          ∙ (pending-same rowsIn (marked rows) (more rowsIn (λ j. false) row) (suc row) l (λ j g. m .at j (omega arith) ∙ ap (λ (b : Bool). or b (eqb j row)) (marked-none j))
-          ∙ (pending-more rowsIn (λ j. false) row l (suc row)
-          ∙ (ap₂ or (reached-in rowsIn (suc row) row l (omega arith)) (pending-none rowsIn (suc row) l)
-          ∙ or-none (reached (condition rowsIn row) l))))
+          ap (λ (k : ℕ). pending conditionRows (inSet rows) k l) e
+          ∙ (pending-same conditionRows (inSet rows) (more conditionRows (λ j. false) row) (suc row) l (λ j g. m .at j (omega arith) ∙ ap (λ (b : Bool). or b (eqb j row)) (none-in j))
+          ∙ (pending-more conditionRows (λ j. false) row l (suc row)
+          ∙ (ap₂ or (reached-in conditionRows (suc row) row l (omega arith)) (pending-none conditionRows (suc row) l)
+          ∙ or-none (reached (condition conditionRows row) l))))
 
   module _ (c : Condition) (v : Links) where
     -- from a place to the next at which a row stands
-    passed-next : (rows : List ℕ) (low from at : ℕ) → from ≤ 256 → at ≡ lowest (λ p. not (placed rows p)) from (256 - from) → Passed rowsIn c v (256 - from) (marked rows) low → Passed rowsIn c v (256 - at) (marked rows) low
-    passed-next rows low from at h e p =
-        let a : from ≤ at = rw e (lowest-from (λ q. not (placed rows q)) from (256 - from)) in
-        passed-same rowsIn c v (256 - from) (256 - at) (marked rows) (marked rows) low
-        (λ l g. ap (λ (b : Bool). b && not (isSet (v l))) (pending-skip rowsIn (marked rows) (256 - at) (256 - from) l (omega arith) (λ q i j. not-true _ (lowest-below (λ q. not (placed rows q)) from (256 - from) (255 - q) (omega arith) (omega (arith, e))))))
+    sought-next : (rows : List ℕ) (low from at : ℕ) → from ≤ 256 → at ≡ lowest (λ p. not (placed rows p)) from (256 - from) → Sought conditionRows c v (256 - from) (inSet rows) low → Sought conditionRows c v (256 - at) (inSet rows) low
+    sought-next rows low from at h e p =
+        let a : from ≤ at = next-after rows from at e in
+        sought-same conditionRows c v (256 - from) (256 - at) (inSet rows) (inSet rows) low
+        (λ l g. ap (λ (b : Bool). b && not (isSet (v l))) (pending-skip conditionRows (inSet rows) (256 - at) (256 - from) l (omega arith) (λ q i j. not-true _ (lowest-below (λ q. not (placed rows q)) from (256 - from) (255 - q) (omega arith) (omega (arith, e))))))
         p
 
     -- one row
-    module _ (rows : List ℕ) (low at : ℕ) (inside : at < 256) (there : placed rows at ≡ true) (p : Passed rowsIn c v (256 - at) (marked rows) low) where
-      pub passed-more : (rows′ : List ℕ) (at′ : ℕ) → Marks (isOperand (rowsIn (255 - at))) rows rows′ → at′ ≡ lowest (λ q. not (placed rows′ q)) (at + 1) (256 - (at + 1)) → Passed rowsIn c v (256 - at′) (marked rows′) (lowered (rowsIn (255 - at)) v low)
-      passed-more rows′ at′ m e = passed-next rows′ (lowered (rowsIn r) v low) (at + 1) at′ (omega arith) e (subst (λ (k : ℕ). Passed rowsIn c v k (marked rows′) (lowered (rowsIn r) v low)) (let z : 255 - at ≡ 256 - (at + 1) = omega arith in z) visited)
+    module _ (rows : List ℕ) (low at : ℕ) (inside : at < 256) (there : placed rows at ≡ true) (p : Sought conditionRows c v (256 - at) (inSet rows) low) where
+      pub sought-more : (rows′ : List ℕ) (at′ : ℕ) → Adds (isOperand (conditionRows (255 - at))) rows rows′ → at′ ≡ lowest (λ q. not (placed rows′ q)) (at + 1) (256 - (at + 1)) → Sought conditionRows c v (256 - at′) (inSet rows′) (lowered (conditionRows (255 - at)) v low)
+      sought-more rows′ at′ m e = sought-next rows′ (lowered (conditionRows r) v low) (at + 1) at′ (omega arith) e (subst (λ (k : ℕ). Sought conditionRows c v k (inSet rows′) (lowered (conditionRows r) v low)) (let z : 255 - at ≡ 256 - (at + 1) = omega arith in z) visited)
         where
           r : ℕ
           r = 255 - at
 
-          its-mark : marked rows r ≡ true
-          its-mark = let z : 255 - r ≡ at = omega arith in ap (placed rows) z ∙ there
+          is-there : inSet rows r ≡ true
+          is-there = let z : 255 - r ≡ at = omega arith in ap (placed rows) z ∙ there
 
-          here : Passed rowsIn c v (suc r) (marked rows) low
-          here = let z : 256 - at ≡ suc r = omega arith in subst (λ (k : ℕ). Passed rowsIn c v k (marked rows) low) z p
+          here : Sought conditionRows c v (suc r) (inSet rows) low
+          here = let z : 256 - at ≡ suc r = omega arith in subst (λ (k : ℕ). Sought conditionRows c v k (inSet rows) low) z p
 
-          visited : Passed rowsIn c v r (marked rows′) (lowered (rowsIn r) v low)
+          visited : Sought conditionRows c v r (inSet rows′) (lowered (conditionRows r) v low)
           visited =
-              passed-same rowsIn c v r r (λ j. or (marked rows j) (isOperand (rowsIn r) j)) (marked rows′) (lowered (rowsIn r) v low)
-              (λ l g. ap (λ (b : Bool). b && not (isSet (v l))) (pending-same rowsIn _ (marked rows′) r l (λ j h. sym (m .at j (omega arith)))))
-              (by-row rowsIn c v r (marked rows) low here (rowsIn r) (λ l. pending-marked rowsIn (marked rows) r l its-mark))
+              sought-same conditionRows c v r r (λ j. or (inSet rows j) (isOperand (conditionRows r) j)) (inSet rows′) (lowered (conditionRows r) v low)
+              (λ l g. ap (λ (b : Bool). b && not (isSet (v l))) (pending-same conditionRows _ (inSet rows′) r l (λ j h. sym (m .at j (omega arith)))))
+              (by-row conditionRows c v r (inSet rows) low here (conditionRows r) (λ l. pending-marked conditionRows (inSet rows) r l is-there))
 
   -- past the last place nothing is to come
-  pub passed-end : (row : ℕ) (v : Links) (rows : List ℕ) (low at : ℕ) → 256 ≤ at → Passed rowsIn (condition rowsIn row) v (256 - at) (marked rows) low → low ≡ awaitedAt cs row v
+  pub sought-end : (row : ℕ) (v : Links) (rows : List ℕ) (low at : ℕ) → 256 ≤ at → Sought conditionRows (condition conditionRows row) v (256 - at) (inSet rows) low → low ≡ awaitedAt cs row v
   unfolding awaitedAt awaited pending
-  passed-end row v rows low at h p =
+  sought-end row v rows low at h p =
       by-cases (decLt low 64)
       (λ h. sym (lowest-is _ 0 64 low (omega arith) (λ j a b. ap not (nothing j b)) (omega arith) (ap not (p .hit h))))
       (λ h. let e : low ≡ 64 = omega (arith, p .small) in e ∙ sym (lowest-none _ 0 64 (λ j a b. ap not (nothing j (omega arith)))))
     where
-      nothing : (l : ℕ) → l < low → lacks (condition rowsIn row) v l ≡ false
-      nothing l g = let z : 256 - at ≡ 0 = omega arith in p .rest l g ∙ ap (λ (k : ℕ). pending rowsIn (marked rows) k l && not (isSet (v l))) z
+      nothing : (l : ℕ) → l < low → lacks (condition conditionRows row) v l ≡ false
+      nothing l g = let z : 256 - at ≡ 0 = omega arith in p .rest l g ∙ ap (λ (k : ℕ). pending conditionRows (inSet rows) k l && not (isSet (v l))) z

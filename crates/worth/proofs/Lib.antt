@@ -1,4 +1,4 @@
 pub mod Places
 pub mod Falling
 pub mod Values
-pub mod Told
+pub mod Telling

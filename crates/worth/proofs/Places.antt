@@ -1,6 +1,6 @@
 -- The laws of a set of rows as the bits of four words. Assumes nothing.
 use Prim.Native.Nat.{ℕ, _+_, _-_, _*_, _/_, _%_, _^_, _<_, _≤_}
-use mathlib.Core.Path.{_≡_, refl, sym, _∙_, ap}
+use mathlib.Core.Path.{_≡_, sym, _∙_, ap}
 use mathlib.Core.Bool.{Bool, true, false, not}
 use mathlib.Core.List.{List}
 use mathlib.Core.Logic.{by-cases}
@@ -16,17 +16,17 @@ use lib.Seq.{getD-set-same, getD-set-other}
 use borrow.Author.Tests.{eq-eqb, ne-eqb, not-true, not-false}
 use Rattle.laws.specs.Tests.{or}
 use Rattle.laws.specs.Lowest.{lowest}
-use Rattle.laws.proofs.Tests.{or-none, not-both}
+use Rattle.laws.proofs.Tests.{or-none, or-right, not-both}
 use Rattle.laws.proofs.Up.{getD-constant}
 use Rattle.laws.proofs.Lowest.{lowest-from, lowest-below, lowest-at, lowest-is, lowest-none}
 use Rattle.reach.specs.Masks.{hasBit}
 use Rattle.reach.proofs.Bits.{bit-or, bit-power, bit-none, bits-some, trailing-lowest}
-use Rattle.worth.specs.Sets.{placed, marked, Marks}
+use Rattle.worth.specs.Sets.{placed, inSet, Adds}
 
 -- no row stands in words of zeros
-pub marked-none : (r : ℕ) → marked (replicate 4 0) r ≡ false
+pub none-in : (r : ℕ) → inSet (replicate 4 0) r ≡ false
 unfolding placed
-marked-none r = ap (λ (w : ℕ). hasBit w ((255 - r) % 64)) (getD-constant {A = ℕ} 0 4 ((255 - r) / 64)) ∙ bit-none ((255 - r) % 64)
+none-in r = ap (λ (w : ℕ). hasBit w ((255 - r) % 64)) (getD-constant {A = ℕ} 0 4 ((255 - r) / 64)) ∙ bit-none ((255 - r) % 64)
 
 -- two tests of numbers, by what makes them equal
 eqb-same : (a b c d : ℕ) → (a ≡ b → c ≡ d) → (c ≡ d → a ≡ b) → eqb a b ≡ eqb c d
@@ -47,10 +47,10 @@ module _ (rows : List ℕ) (long : length rows ≡ 4) (p : ℕ) (small : p < 256
       ∙ sym (ap (or (hasBit (getD rows (q / 64) 0) (q % 64))) (ne-eqb q p (λ (f : q ≡ p). e (ap (λ (x : ℕ). x / 64) f))) ∙ or-none _))
 
 -- ... so that one row is new
-pub marks-one : (rows : List ℕ) (row : ℕ) → length rows ≡ 4 → row < 256 → Marks (λ r. eqb r row) rows (set rows ((255 - row) / 64) (bitOr (getD rows ((255 - row) / 64) 0) (2 ^ ((255 - row) % 64))))
-marks-one rows row long h = record {
+pub adds-one : (rows : List ℕ) (row : ℕ) → length rows ≡ 4 → row < 256 → Adds (λ r. eqb r row) rows (set rows ((255 - row) / 64) (bitOr (getD rows ((255 - row) / 64) 0) (2 ^ ((255 - row) % 64))))
+adds-one rows row long h = record {
   size = length-set rows ((255 - row) / 64) _ ∙ long;
-  at = λ r g. placed-more rows long (255 - row) (omega arith) (255 - r) ∙ ap (or (marked rows r)) (eqb-same (255 - r) (255 - row) r row (λ e. omega arith) (λ e. omega arith));
+  at = λ r g. placed-more rows long (255 - row) (omega arith) (255 - r) ∙ ap (or (inSet rows r)) (eqb-same (255 - r) (255 - row) r row (λ e. omega arith) (λ e. omega arith));
 }
 
 -- the digits of a number that is shifted, and of a small one
@@ -104,9 +104,6 @@ clear-none rows from q h k = absurd (let z : ⊥ = omega arith in z)
 
 -- a word's places, by its first bit
 module _ (rows : List ℕ) (from at bit : ℕ) (clear : Clear rows from at) (found : bit ≡ lowest (λ l. not (hasBit (getD rows (at / 64) 0) l)) (at % 64) (64 - at % 64)) where
-  abbrev first : ℕ
-  first = lowest (λ l. not (hasBit (getD rows (at / 64) 0) l)) (at % 64) (64 - at % 64)
-
   clear-upto : (end : ℕ) → end ≤ at / 64 * 64 + bit → end ≤ at / 64 * 64 + 64 → Clear rows from end
   unfolding Clear placed
   clear-upto end b w q h k =
@@ -135,16 +132,11 @@ next-none rows from at clear h k =
     sym (lowest-none (λ p. not (placed rows p)) from (256 - from) (λ q g l. ap not (clear q g (omega arith))) ∙ z)
 
 -- nothing is new, and two rows are
-pub marks-none : (new : ℕ → Bool) (rows : List ℕ) → length rows ≡ 4 → ((r : ℕ) → new r ≡ false) → Marks new rows rows
-marks-none new rows long h = record { size = long; at = λ r g. sym (ap (or (marked rows r)) (h r) ∙ or-none (marked rows r)) }
+pub adds-none : (new : ℕ → Bool) (rows : List ℕ) → length rows ≡ 4 → ((r : ℕ) → new r ≡ false) → Adds new rows rows
+adds-none new rows long h = record { size = long; at = λ r g. sym (ap (or (inSet rows r)) (h r) ∙ or-none (inSet rows r)) }
 
-pub or-right : (x y z : Bool) → or (or x y) z ≡ or x (or y z)
-unfolding or
-or-right true y z = refl
-or-right false y z = refl
-
-pub marks-two : (a b : ℕ) (rows rows′ rows″ : List ℕ) → Marks (λ r. eqb r a) rows rows′ → Marks (λ r. eqb r b) rows′ rows″ → Marks (λ r. or (eqb r a) (eqb r b)) rows rows″
-marks-two a b rows rows′ rows″ m m′ = record { size = m′ .size; at = λ r h. m′ .at r h ∙ (ap (λ (x : Bool). or x (eqb r b)) (m .at r h) ∙ or-right (marked rows r) (eqb r a) (eqb r b)) }
+pub adds-two : (a b : ℕ) (rows rows′ rows″ : List ℕ) → Adds (λ r. eqb r a) rows rows′ → Adds (λ r. eqb r b) rows′ rows″ → Adds (λ r. or (eqb r a) (eqb r b)) rows rows″
+adds-two a b rows rows′ rows″ m m′ = record { size = m′ .size; at = λ r h. m′ .at r h ∙ (ap (λ (x : Bool). or x (eqb r b)) (m .at r h) ∙ or-right (inSet rows r) (eqb r a) (eqb r b)) }
 
 -- the next place lies after
 pub next-after : (rows : List ℕ) (from at : ℕ) → at ≡ lowest (λ p. not (placed rows p)) from (256 - from) → from ≤ at

@@ -29,16 +29,16 @@ lowered (LINK l) v low = lowerBy v l low
 lowered (OP o a b) v low = low
 
 -- the condition row of a JOIN row, by its byte
-abbrev pub conditionIn : List ℕ → ℕ → ℕ
-conditionIn ts r = getD ts (r * 4 + 1) 0
+abbrev pub conditionByte : List ℕ → ℕ → ℕ
+conditionByte ts r = getD ts (r * 4 + 1) 0
 
 -- the byte that is told of a condition row, and of a JOIN row
 unfoldable pub byteAt : List ℕ → List ℕ → List ℕ → ℕ → ℕ
 byteAt cs links vals q = waitByte (worthBy (undigit (valueIn vals q)) (awaitedAt cs q (linksIn links)))
 
 abbrev pub byteOf : List ℕ → List ℕ → List ℕ → List ℕ → ℕ → ℕ
-byteOf ts cs links vals r = byteAt cs links vals (conditionIn ts r)
+byteOf ts cs links vals r = byteAt cs links vals (conditionByte ts r)
 
 -- the row is lent, and its condition row is
-abbrev pub Lent : List ℕ → List ℕ → ℕ → Type 0
-Lent ts cs r = (r * 4 + 4 ≤ length ts) × (conditionIn ts r * 4 + 4 ≤ length cs)
+abbrev pub RowLent : List ℕ → List ℕ → ℕ → Type 0
+RowLent ts cs r = (r * 4 + 4 ≤ length ts) × (conditionByte ts r * 4 + 4 ≤ length cs)

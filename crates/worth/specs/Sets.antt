@@ -12,10 +12,10 @@ unfoldable pub placed : List ℕ → ℕ → Bool
 placed rows p = hasBit (getD rows (p / 64) 0) (p % 64)
 
 -- the row is in the set
-abbrev pub marked : List ℕ → ℕ → Bool
-marked rows r = placed rows (255 - r)
+abbrev pub inSet : List ℕ → ℕ → Bool
+inSet rows r = placed rows (255 - r)
 
 -- of 256 rows those that meet a test are in the set too, and no other is new
-pub record Marks (new : ℕ → Bool) (rows rows′ : List ℕ) : Type 0 where
+pub record Adds (new : ℕ → Bool) (rows rows′ : List ℕ) : Type 0 where
   pub size : length rows′ ≡ 4
-  pub at : (r : ℕ) → r < 256 → marked rows′ r ≡ or (marked rows r) (new r)
+  pub at : (r : ℕ) → r < 256 → inSet rows′ r ≡ or (inSet rows r) (new r)

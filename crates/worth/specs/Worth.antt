@@ -31,8 +31,11 @@ worthOf e cs row v = worthBy (evalOf e cs row v) (awaitedAt cs row v)
 abbrev pub worthIn : Table → ℕ → Links → Worth
 worthIn t = worthOf (t .evaluation) (t .conditions)
 
--- a JOIN waits for a link, or for none where its condition is false; one whose condition is true does not wait
+-- a JOIN waits for a link, or for none where its condition is false; one whose condition is true does not wait. Links are below 64
+abbrev pub noLink : ℕ
+noLink = 255
+
 abbrev pub waitByte : Worth → ℕ
 waitByte (worth.Unset l) = l
-waitByte worth.False = 255
-waitByte worth.True = 255
+waitByte worth.False = noLink
+waitByte worth.True = noLink

@@ -7,7 +7,7 @@ use Rattle.sheet.specs.Table.{Table, tableOf}
 use Rattle.sheet.specs.Accepted.{WellFormed}
 use Rattle.state.specs.declared.State.{State}
 use Rattle.engine.proofs.Known.{Knows}
-use Rattle.engine.proofs.Waits.{waits-counted, waits-short, rows-room, rows-counted, rows-lent, waits-told}
+use Rattle.engine.proofs.Waits.{waits-counted, wait-short, rows-room, rows-counted, rows-lent, wait-told}
 use borrow.Author.Needs.{needs}
 use Rattle.engine.proofs.wait.Statement.{statement}
 use Rattle.engine.proofs.wait.Tie as tie
@@ -51,7 +51,7 @@ returns : tie.Need-returns
 returns c =
     let d = c .before .before in
     let (e, g) = d .stand-by .ensures .1 in
-    (waits-counted _ (formed d) (state d) _ _ (known d) _ e, waits-short _ (formed d) (state d) _ _ (known d) _ e (lent d) (c .if1 .taken))
+    (waits-counted _ (formed d) (state d) _ _ (known d) _ e, wait-short _ (formed d) (state d) _ _ (known d) _ e (lent d) (c .if1 .taken))
 
 array-share-prefix-rows : tie.Need-array-share-prefix-rows
 array-share-prefix-rows c =
@@ -82,7 +82,7 @@ returns-2 c =
     let d = i .before .before in
     let (e, g) = d .stand-by .ensures .1 in (
       waits-counted _ (formed d) (state d) _ _ (known d) _ e,
-      waits-told _ (formed d) (state d) _ _ (known d) _ e _ _ (omega arith) g (lent d) _ (i .if1 .left) (c .before .before .tell .ensures),
+      wait-told _ (formed d) (state d) _ _ (known d) _ e _ _ (omega arith) g (lent d) _ (i .if1 .left) (c .before .before .tell .ensures),
     )
 
 pub wait-spec : {M : Type 1} → statement M

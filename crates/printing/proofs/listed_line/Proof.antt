@@ -3,7 +3,7 @@ use mathlib.Core.Path.{refl, sym, ap, _∙_}
 use lib.Seq.{length-take-le}
 use Rattle.lines.specs.Page.{added}
 use Rattle.lines.specs.Lines.{enabledWord, rowsLine}
-use Rattle.printing.proofs.Runs.{told-lies, told-part, told-unrefused, listed-told}
+use Rattle.printing.proofs.Runs.{fetched-lies, fetched-part, fetched-unrefused, listed-fetched}
 use borrow.Author.Needs.{needs}
 use Rattle.printing.proofs.listed_line.Statement.{statement}
 use Rattle.printing.proofs.listed_line.Tie as tie
@@ -20,12 +20,12 @@ enum-known-count c = search needs
 array-share-prefix-rows : tie.Need-array-share-prefix-rows
 array-share-prefix-rows c =
     let b = c .before .before .before .before .before in
-    told-lies (listed-told _ _ (b .before .before .before .before .before .pre) (replicate 256 0) refl _ _ (b .list-steps .ensures .0)) _ (c .before .before .count .given .1)
+    fetched-lies (listed-fetched _ _ (b .before .before .before .before .before .pre) (replicate 256 0) refl _ _ (b .list-steps .ensures .0)) _ (c .before .before .count .given .1)
 
 slice-aggregate-enabled-line : tie.Need-slice-aggregate-enabled-line
 slice-aggregate-enabled-line c =
     let b = c .before .before .before .before .before .before in
-    sym (length-take-le _ _ (told-lies (listed-told _ _ (b .before .before .before .before .before .pre) (replicate 256 0) refl _ _ (b .list-steps .ensures .0)) _ (c .before .before .before .count .given .1)))
+    sym (length-take-le _ _ (fetched-lies (listed-fetched _ _ (b .before .before .before .before .before .pre) (replicate 256 0) refl _ _ (b .list-steps .ensures .0)) _ (c .before .before .before .count .given .1)))
 
 enabled-line-requires : tie.Need-enabled-line-requires
 enabled-line-requires c κs = search needs
@@ -42,7 +42,7 @@ same-length c = search needs
 returns : tie.Need-returns
 returns c =
     let b = c .before .before .before .before .before .before .before .before .before in
-    let rows = told-part (listed-told _ _ (b .before .before .before .before .before .pre) (replicate 256 0) refl _ _ (b .list-steps .ensures .0)) _ (c .before .before .before .before .before .before .count .given .1) in
+    let rows = fetched-part (listed-fetched _ _ (b .before .before .before .before .before .pre) (replicate 256 0) refl _ _ (b .list-steps .ensures .0)) _ (c .before .before .before .before .before .before .count .given .1) in
     c .before .before .enabled-line .ensures ∙ ap (added _) (ap (rowsLine enabledWord) rows)
 
 same-length-2 : tie.Need-same-length-2
@@ -51,7 +51,7 @@ same-length-2 c = search needs
 returns-2 : tie.Need-returns-2
 returns-2 c =
     let b = c .before .before .before .before .before .before .before .before in
-    absurd (told-unrefused (listed-told _ _ (b .before .before .before .before .before .pre) (replicate 256 0) refl _ _ (b .list-steps .ensures .0)) _ _ (c .before .before .before .before .before .number .given .1))
+    absurd (fetched-unrefused (listed-fetched _ _ (b .before .before .before .before .before .pre) (replicate 256 0) refl _ _ (b .list-steps .ensures .0)) _ _ (c .before .before .before .before .before .number .given .1))
 
 pub listed-line-spec : {M : Type 1} → statement M
 listed-line-spec =

@@ -3,7 +3,7 @@ use mathlib.Core.Path.{refl, sym, ap, ap₂, _∙_}
 use lib.Seq.{length-take-le}
 use Rattle.lines.specs.Page.{added}
 use Rattle.lines.specs.Lines.{waitingLine}
-use Rattle.printing.proofs.Runs.{told-lies, told-part, told-unrefused, waits-told, waits-matched}
+use Rattle.printing.proofs.Runs.{fetched-lies, fetched-part, fetched-unrefused, waits-fetched, waits-matched}
 use borrow.Author.Needs.{needs}
 use Rattle.printing.proofs.waited_line.Statement.{statement}
 use Rattle.printing.proofs.waited_line.Tie as tie
@@ -20,17 +20,17 @@ enum-known-count c = search needs
 array-share-prefix-links : tie.Need-array-share-prefix-links
 array-share-prefix-links c =
     let b = c .before .before .before .before .before in
-    told-lies (waits-told _ _ (b .before .before .before .before .before .before .pre .0) (replicate 256 0) refl _ _ (b .waits-for .ensures .0)) _ (c .before .before .count .given .1)
+    fetched-lies (waits-fetched _ _ (b .before .before .before .before .before .before .pre .0) (replicate 256 0) refl _ _ (b .waits-for .ensures .0)) _ (c .before .before .count .given .1)
 
 slice-aggregate-waiting-line : tie.Need-slice-aggregate-waiting-line
 slice-aggregate-waiting-line c =
     let b = c .before .before .before .before .before .before in
-    sym (length-take-le _ _ (told-lies (waits-told _ _ (b .before .before .before .before .before .before .pre .0) (replicate 256 0) refl _ _ (b .waits-for .ensures .0)) _ (c .before .before .before .count .given .1)))
+    sym (length-take-le _ _ (fetched-lies (waits-fetched _ _ (b .before .before .before .before .before .before .pre .0) (replicate 256 0) refl _ _ (b .waits-for .ensures .0)) _ (c .before .before .before .count .given .1)))
 
 waiting-line-requires : tie.Need-waiting-line-requires
 waiting-line-requires c κs =
     let b = c .before .before .before .before .before .before in
-    let links = told-part (waits-told _ _ (b .before .before .before .before .before .before .pre .0) (replicate 256 0) refl _ _ (b .waits-for .ensures .0)) _ (c .before .before .before .count .given .1) in
+    let links = fetched-part (waits-fetched _ _ (b .before .before .before .before .before .before .pre .0) (replicate 256 0) refl _ _ (b .waits-for .ensures .0)) _ (c .before .before .before .count .given .1) in
     waits-matched _ _ _ _ (c .before .before .before .before .before .before .before .before .before .before .before .before .pre .1) links
 
 enum-known-number : tie.Need-enum-known-number
@@ -45,7 +45,7 @@ same-length c = search needs
 returns : tie.Need-returns
 returns c =
     let b = c .before .before .before .before .before .before .before .before .before in
-    let links = told-part (waits-told _ _ (b .before .before .before .before .before .before .pre .0) (replicate 256 0) refl _ _ (b .waits-for .ensures .0)) _ (c .before .before .before .before .before .before .count .given .1) in
+    let links = fetched-part (waits-fetched _ _ (b .before .before .before .before .before .before .pre .0) (replicate 256 0) refl _ _ (b .waits-for .ensures .0)) _ (c .before .before .before .before .before .before .count .given .1) in
     c .before .before .waiting-line .ensures ∙ ap (added _) (ap₂ waitingLine (c .before .before .before .before .before .before .before .before .before .before .before .before .before .before .before .pre .1) links)
 
 same-length-2 : tie.Need-same-length-2
@@ -54,7 +54,7 @@ same-length-2 c = search needs
 returns-2 : tie.Need-returns-2
 returns-2 c =
     let b = c .before .before .before .before .before .before .before .before in
-    absurd (told-unrefused (waits-told _ _ (b .before .before .before .before .before .before .pre .0) (replicate 256 0) refl _ _ (b .waits-for .ensures .0)) _ _ (c .before .before .before .before .before .number .given .1))
+    absurd (fetched-unrefused (waits-fetched _ _ (b .before .before .before .before .before .before .pre .0) (replicate 256 0) refl _ _ (b .waits-for .ensures .0)) _ _ (c .before .before .before .before .before .number .given .1))
 
 pub waited-line-spec : {M : Type 1} → statement M
 waited-line-spec =

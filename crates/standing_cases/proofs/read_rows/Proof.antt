@@ -11,11 +11,11 @@ Inv-loop file count linked rows₀ links₀ end i₀ rows links i = (end ≤ 256
 abbrev μ-loop : tie.MeasureT-loop
 μ-loop file count linked rows₀ links₀ end i₀ rows links i = end - i
 
-few-requires : tie.Need-few-requires Inv-loop μ-loop
-few-requires c κs = omega arith
+at-most-256-requires : tie.Need-at-most-256-requires Inv-loop μ-loop
+at-most-256-requires c κs = omega arith
 
 loop-holds : tie.Need-loop-holds Inv-loop μ-loop
-loop-holds c = (c .few .ensures, c .before .pre)
+loop-holds c = (c .at-most-256 .ensures, c .before .pre)
 
 byte-requires : tie.Need-byte-requires Inv-loop μ-loop
 byte-requires c κs = tt
@@ -56,7 +56,7 @@ read-rows-spec =
     (tie.spec
     Inv-loop
     μ-loop
-    few-requires
+    at-most-256-requires
     loop-holds
     byte-requires
     element-write-rows

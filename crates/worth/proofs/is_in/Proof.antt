@@ -2,8 +2,8 @@ use mathlib.Core.Path.{refl}
 use Rattle.reach.specs.Masks.{hasBit}
 use Rattle.worth.specs.Sets.{placed}
 use borrow.Author.Needs.{needs}
-use Rattle.worth.proofs.is_marked.Statement.{statement}
-use Rattle.worth.proofs.is_marked.Tie as tie
+use Rattle.worth.proofs.is_in.Statement.{statement}
+use Rattle.worth.proofs.is_in.Tie as tie
 
 sub-place : tie.Need-sub-place
 sub-place c = search needs
@@ -27,8 +27,8 @@ returns : tie.Need-returns
 unfolding placed hasBit
 returns c = refl
 
-pub is-marked-spec : {M : Type 1} → statement M
-is-marked-spec =
+pub is-in-spec : {M : Type 1} → statement M
+is-in-spec =
     tie.close
     (tie.spec
     sub-place

@@ -2,11 +2,11 @@ use lib.Pow.{shl-exact}
 use native.Mathlib.Nat.{one-mul}
 use Prim.Native.Nat.{_-_, _%_, _^_}
 use mathlib.Core.Path.{_∙_}
-use Rattle.worth.proofs.Places.{marks-one}
+use Rattle.worth.proofs.Places.{adds-one}
 use native.Mathlib.Omega.{arith}
 use borrow.Author.Needs.{needs}
-use Rattle.worth.proofs.mark.Statement.{statement}
-use Rattle.worth.proofs.mark.Tie as tie
+use Rattle.worth.proofs.add.Statement.{statement}
+use Rattle.worth.proofs.add.Tie as tie
 
 sub-place : tie.Need-sub-place
 sub-place c = search needs
@@ -33,10 +33,10 @@ element-write-rows : tie.Need-element-write-rows
 element-write-rows c = search needs
 
 returns : tie.Need-returns
-returns c = let k = (255 - c .before .args .row) % 64 in rw (shl-exact 1 k 64 (omega arith) (omega arith) ∙ one-mul (2 ^ k)) (marks-one _ _ (c .before .pre) (omega arith))
+returns c = let k = (255 - c .before .args .row) % 64 in rw (shl-exact 1 k 64 (omega arith) (omega arith) ∙ one-mul (2 ^ k)) (adds-one _ _ (c .before .pre) (omega arith))
 
-pub mark-spec : {M : Type 1} → statement M
-mark-spec =
+pub add-spec : {M : Type 1} → statement M
+add-spec =
     tie.close
     (tie.spec
     sub-place
