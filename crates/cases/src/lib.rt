@@ -88,16 +88,22 @@ pub fn read_asked(file: i32) -> Asked {
     }
 }
 
-// A state. Behind its mode the file has two bytes that no state of this engine holds: they are passed over.
+// A state; each of its counts is one byte.
 pub fn read_state(file: i32) -> State {
     let mode = byte(file);
-    byte(file);
-    byte(file);
+    let acts = byte(file) as u16;
+    let unset = byte(file) as u16;
     let mut marks = [0; 256];
     io::read_full(file, &mut marks);
     let mut links = [0; 64];
     io::read_full(file, &mut links);
-    State { mode, marks, links }
+    State {
+        mode,
+        marks,
+        links,
+        acts,
+        unset,
+    }
 }
 
 // A table up to its rows, which follow. Of a form (1 byte) and the length of names (2) this engine's tables know nothing: they are passed over.
@@ -165,12 +171,20 @@ pub fn same_told(a: Told, b: Told) -> bool {
     (a.number == b.number) & (a.place == b.place) & (a.word == b.word) & (a.x == b.x) & (a.y == b.y)
 }
 
+fn same_numbers(a: State, b: State) -> bool {
+    (a.mode == b.mode) & (a.acts == b.acts) & (a.unset == b.unset)
+}
+
+fn same_links(a: State, b: State) -> bool {
+    let al = a.links;
+    let bl = b.links;
+    check::same(&al, &bl)
+}
+
 pub fn same_state(a: State, b: State) -> bool {
     let am = a.marks;
     let bm = b.marks;
-    let al = a.links;
-    let bl = b.links;
-    (a.mode == b.mode) & check::same(&am, &bm) & check::same(&al, &bl)
+    same_numbers(a, b) & check::same(&am, &bm) & same_links(a, b)
 }
 
 // A lent buffer, beside the bytes of the case.

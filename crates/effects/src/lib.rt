@@ -1,4 +1,4 @@
-// What a step changes: the row's mark and link, the waiting PICKs above it, and in cleaning mode the links of what is cleaned away.
+// What a step changes: the row's mark and link, the waiting PICKs above it, in cleaning mode the links of what is cleaned away, and the counts.
 ghost use mathlib.Core.Path.{_≡_};
 ghost use Prim.Native.Nat.{_+_, _*_, _<_, _≤_};
 ghost use lib.ListN.{length, getD};
@@ -7,7 +7,7 @@ ghost use Rattle.steps.specs.Rows.{firstOf, Tree};
 ghost use Rattle.steps.specs.InFront.{parentOf};
 ghost use Rattle.sheet.specs.Table.{rowAt};
 ghost use Rattle.reach.specs.Masks.{hasBit};
-ghost use Rattle.moves.specs.Steps.{modeOf, isWaitingPick, falsifyFrom, falsified, decidedOf, climbed, ownOf, takenOf, droppedOf};
+ghost use Rattle.moves.specs.Steps.{modeOf, isWaitingPick, falsifyFrom, falsified, decidedOf, climbed, ownOf, takenOf, droppedOf, countedIn};
 ghost use Rattle.effects.specs.Gather.{Gathers, ownSets, keptFirst, keptSecond, setsAt, AllKids, OwnBelow};
 use state::State;
 
@@ -164,7 +164,7 @@ fn set_own(ts: &[u8], row: usize, z: State) -> State
 }
 
 // The row is passed.
-pub fn taken(ts: &[u8], n: usize, old: State, row: usize) -> State
+fn pass_row(ts: &[u8], n: usize, old: State, row: usize) -> State
     requires { ⌜ (n * 4 ≤ length (now ts)) × ((n ≤ 256) × (Tree (rowAt (now ts)) n × ((row < n) × OwnBelow (rowAt (now ts) row)))) ⌝ }
     ensures { λ r. ⌜ r ≡ takenOf (now (ts .entry)) n old row ⌝ }
 {
@@ -174,10 +174,26 @@ pub fn taken(ts: &[u8], n: usize, old: State, row: usize) -> State
 }
 
 // The row, a JOIN, is dropped.
-pub fn dropped(ts: &[u8], n: usize, old: State, row: usize) -> State
+fn drop_row(ts: &[u8], n: usize, old: State, row: usize) -> State
     requires { ⌜ (n * 4 ≤ length (now ts)) × ((n ≤ 256) × (AllKids (now ts) n × ((row < n) × (firstOf (rowAt (now ts) row) < n)))) ⌝ }
     ensures { λ r. ⌜ r ≡ droppedOf (now (ts .entry)) n old row ⌝ }
 {
     let next = old.drop_join(row as u8);
     falsify_below(ts, n, &old.marks, rows::first(ts, row) as usize, next)
+}
+
+// The row is passed, and the counts are those of what is left.
+pub fn taken(m: usize, ts: &[u8], n: usize, old: State, row: usize) -> State
+    requires { ⌜ (m ≤ 64) × ((n * 4 ≤ length (now ts)) × ((n ≤ 256) × (Tree (rowAt (now ts)) n × ((row < n) × OwnBelow (rowAt (now ts) row))))) ⌝ }
+    ensures { λ r. ⌜ r ≡ countedIn m (now (ts .entry)) n (takenOf (now (ts .entry)) n old row) ⌝ }
+{
+    counts::counted(m, ts, n, pass_row(ts, n, old, row))
+}
+
+// The row, a JOIN, is dropped, and the counts are those of what is left.
+pub fn dropped(m: usize, ts: &[u8], n: usize, old: State, row: usize) -> State
+    requires { ⌜ (m ≤ 64) × ((n * 4 ≤ length (now ts)) × ((n ≤ 256) × (Tree (rowAt (now ts)) n × ((row < n) × (firstOf (rowAt (now ts) row) < n))))) ⌝ }
+    ensures { λ r. ⌜ r ≡ countedIn m (now (ts .entry)) n (droppedOf (now (ts .entry)) n old row) ⌝ }
+{
+    counts::counted(m, ts, n, drop_row(ts, n, old, row))
 }

@@ -27,10 +27,11 @@ use Rattle.evaluate.proofs.Rows.{evaluated-at}
 use Rattle.state.specs.declared.State.{State}
 use Rattle.state.specs.declared.StepKind.{StepKind}
 use Rattle.state.specs.declared.StepKind.the-variants.{Act, Set, Open, Clean, Refused}
-use Rattle.moves.specs.Steps.{modeOf, marksOf, linksOf, nodes, turnBy, turnAt, kindOf, kindBy, kindTurned, kindAt, hasStep, isSome, steppedBy, steppedOf, takenOf, droppedOf}
+use Rattle.moves.specs.Steps.{modeOf, marksOf, linksOf, nodes, turnBy, turnAt, kindOf, kindBy, kindTurned, kindAt, hasStep, isSome, counted, steppedBy, steppedOf, takenOf, droppedOf}
 use Rattle.flags.specs.Flags.{flagged, Shows}
 use Rattle.flags.proofs.Shown.{shown}
-use Rattle.front.specs.Asked.{nextBy, nextOf, topOf, askedAt}
+use Rattle.front.specs.Asked.{askedAt}
+use Rattle.front.proofs.Asking.{asked-reached}
 use Rattle.effects.specs.Gather.{OwnBelow}
 use Rattle.engine.specs.ByValue.{joinKind, prefixKind, rowKind, kindFrom, isStep, takenAnswer}
 
@@ -96,10 +97,6 @@ same-kind r mode (PREFIX (act a) c) f g h = refl
 same-kind r mode (PREFIX (out l b) c) f g h = refl
 same-kind r mode (PREFIX (join q) c) f g h = ap (joinKind r mode) (h q c refl)
 same-kind r mode (BRANCH κ p q) f g h = refl
-
-pub asked-reached : (node : ℕ → Row) (μ : Marks) (j : ℕ) → askedAt 0 node μ j ≡ reached node μ j
-unfolding askedAt nextOf nextBy topOf reached
-asked-reached node μ j = refl
 
 module _ (t : Table) (w : WellFormed t) (s : State) (seen vals : List ℕ) (k : Knows t s seen vals) where
   -- the step from the tables
@@ -203,13 +200,13 @@ taken-is-step Open e = refl
 taken-is-step Clean e = refl
 taken-is-step (Refused a b) e = e
 
-taken-step : (t : Table) (s : State) (r : ℕ) (N : Row) (o : Option Turn) → isTaken (kindTurned N r o) ≡ true → takenOf (t .terms) (t .n) s r ≡ steppedBy t s r o
+taken-step : (t : Table) (s : State) (r : ℕ) (N : Row) (o : Option Turn) → isTaken (kindTurned N r o) ≡ true → counted t (takenOf (t .terms) (t .n) s r) ≡ steppedBy t s r o
 unfolding kindTurned steppedBy
 taken-step t s r N none e = absurd (true≢false (sym e))
 taken-step t s r N (some takes) e = refl
 taken-step t s r N (some drops) e = absurd (true≢false (sym e))
 
-clean-step : (t : Table) (s : State) (r : ℕ) (N : Row) (o : Option Turn) → isClean (kindTurned N r o) ≡ true → droppedOf (t .terms) (t .n) s r ≡ steppedBy t s r o
+clean-step : (t : Table) (s : State) (r : ℕ) (N : Row) (o : Option Turn) → isClean (kindTurned N r o) ≡ true → counted t (droppedOf (t .terms) (t .n) s r) ≡ steppedBy t s r o
 unfolding kindTurned steppedBy
 clean-step t s r N none e = absurd (true≢false (sym e))
 clean-step t s r N (some takes) e = absurd (taken-not-clean (kindBy N) (kind-by N) e)
@@ -223,11 +220,11 @@ refused-step t s r N (some drops) e = absurd (true≢false e)
 
 -- the answer, by the kind that was found
 module _ (t : Table) (s : State) (r : ℕ) (k : StepKind) (e : k ≡ kindAt t s r) (z : State) where
-  pub answer-taken : isTaken k ≡ true → z ≡ takenOf (t .terms) (t .n) s r → record { ok = true; answer = k; state = z } ≡ takenAnswer t s r
+  pub answer-taken : isTaken k ≡ true → z ≡ counted t (takenOf (t .terms) (t .n) s r) → record { ok = true; answer = k; state = z } ≡ takenAnswer t s r
   unfolding takenAnswer steppedOf kindAt
   answer-taken f g = rw (g, taken-step t s r (nodes t r) (turnAt t s r) (ap isTaken (sym e) ∙ f), ← e, taken-is-step k f) refl
 
-  pub answer-clean : k ≡ Clean → z ≡ droppedOf (t .terms) (t .n) s r → record { ok = true; answer = k; state = z } ≡ takenAnswer t s r
+  pub answer-clean : k ≡ Clean → z ≡ counted t (droppedOf (t .terms) (t .n) s r) → record { ok = true; answer = k; state = z } ≡ takenAnswer t s r
   unfolding takenAnswer steppedOf kindAt
   answer-clean f g = rw (g, clean-step t s r (nodes t r) (turnAt t s r) (ap isClean (sym e ∙ f)), ← e, f) refl
 

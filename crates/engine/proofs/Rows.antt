@@ -22,8 +22,9 @@ use Rattle.moves.specs.Steps.{marksOf, nodes, hasStep, listedOf}
 use Rattle.moves.specs.Standing.{joinInFront, joinsOf, waitingBy, waitingOf}
 use Rattle.flags.specs.Flags.{flagged}
 use Rattle.flags.proofs.Shown.{shown}
+use Rattle.front.proofs.Asking.{asked-reached}
 use Rattle.engine.specs.ByValue.{isStep, stepFrom, joinFrom, stepsFrom, waitingFrom}
-use Rattle.engine.proofs.Known.{Knows, asked-reached, kind-known, kind-step}
+use Rattle.engine.proofs.Known.{Knows, kind-known, kind-step}
 
 -- a JOIN in front, by the kind of the row
 module _ (ts marks seen : List ℕ) (r : ℕ) where

@@ -111,22 +111,22 @@ pub fn take(h: Head, ts: &[u8], cs: &[u8], s: State, row: usize) -> Stepped
         StepKind::Act(a) => Stepped {
             ok: true,
             answer: StepKind::Act(a),
-            state: effects::taken(ts, h.n, s, row),
+            state: effects::taken(h.m, ts, h.n, s, row),
         },
         StepKind::Set(l, v) => Stepped {
             ok: true,
             answer: StepKind::Set(l, v),
-            state: effects::taken(ts, h.n, s, row),
+            state: effects::taken(h.m, ts, h.n, s, row),
         },
         StepKind::Open => Stepped {
             ok: true,
             answer: StepKind::Open,
-            state: effects::taken(ts, h.n, s, row),
+            state: effects::taken(h.m, ts, h.n, s, row),
         },
         StepKind::Clean => Stepped {
             ok: true,
             answer: StepKind::Clean,
-            state: effects::dropped(ts, h.n, s, row),
+            state: effects::dropped(h.m, ts, h.n, s, row),
         },
         StepKind::Refused(a, b) => Stepped {
             ok: false,

@@ -13,8 +13,8 @@ use Rattle.sheet.proofs.Accepted.{none-refused}
 use Rattle.sheet.proofs.Refusals.{without, refused-by}
 use Rattle.state.specs.declared.State.{State}
 use Rattle.moves.specs.Steps.{modeOf, marksOf}
-use Rattle.moves.specs.Fits.{modeCheck, marksFit, linksFit, waitsFit, clearFit, fitChecks, Fits}
-use Rattle.fitting.specs.Checks.{fromD, fromC, fromB, fromA, stateChecks}
+use Rattle.moves.specs.Fits.{modeCheck, marksFit, linksFit, waitsFit, clearFit, countsFit, fitChecks, Fits}
+use Rattle.fitting.specs.Checks.{fromE, fromD, fromC, fromB, fromA, stateChecks}
 
 -- the checks of a table's state are the mode's and those of fitting
 pub state-checks : (t : Table) (s : State) → stateChecks (t .m) (t .n) (t .terms) s ≡ modeCheck (s .mode) ∷ fitChecks t s
@@ -25,10 +25,11 @@ module _ (t : Table) (s : State) (r : Refusal) (told : r ≡ checked refuse (ref
   fits-accepted none =
       let a = none-refused (modeCheck (s .mode)) (fromA (t .m) (t .n) (t .terms) s) (λ z. omega arith) (ap (λ (r : Refusal). r .number) (sym told) ∙ none) in
       let b = none-refused (marksFit (t .terms) (t .n) (modeOf (s .mode)) (marksOf s)) (fromB (t .m) (t .n) (t .terms) s) (λ z. omega arith) (a .1) in
-      let c = none-refused (linksFit (t .m) (s .links)) (fromC (t .n) (t .terms) s) (λ z. omega arith) (b .1) in
-      let d = none-refused (waitsFit (t .terms) (t .n) (marksOf s)) (fromD (t .n) (t .terms) s) (λ z. omega arith) (c .1) in
-      let e = none-refused (clearFit (t .terms) (t .n) (marksOf s) (s .links)) [] (λ z. omega arith) (d .1) in
-      (leb-true (s .mode) 1 (a .0 (s .mode) (omega arith) (omega arith)), record { marks-fit = b .0; links-fit = c .0; waits-fit = d .0; clear-fit = e .0 })
+      let c = none-refused (linksFit (t .m) (s .links)) (fromC (t .m) (t .n) (t .terms) s) (λ z. omega arith) (b .1) in
+      let d = none-refused (waitsFit (t .terms) (t .n) (marksOf s)) (fromD (t .m) (t .n) (t .terms) s) (λ z. omega arith) (c .1) in
+      let e = none-refused (clearFit (t .terms) (t .n) (marksOf s) (s .links)) (fromE (t .m) (t .n) (t .terms) s) (λ z. omega arith) (d .1) in
+      let f = none-refused (countsFit (t .m) (t .terms) (t .n) s) [] (λ z. omega arith) (e .1) in
+      (leb-true (s .mode) 1 (a .0 (s .mode) (omega arith) (omega arith)), record { marks-fit = b .0; links-fit = c .0; waits-fit = d .0; clear-fit = e .0; counts-fit = f .0 })
 
   -- ... and the other way
   mode-holds : s .mode ≤ 1 → Holds (modeCheck (s .mode))
@@ -36,7 +37,7 @@ module _ (t : Table) (s : State) (r : Refusal) (told : r ≡ checked refuse (ref
 
   pub accepts-fitting : s .mode ≤ 1 → Fits t s → r ≡ refuse 0 0
   unfolding AllHold
-  accepts-fitting h f = told ∙ all-hold refuse (refuse 0 0) (stateChecks (t .m) (t .n) (t .terms) s) (mode-holds h, (f .marks-fit, (f .links-fit, (f .waits-fit, (f .clear-fit, tt)))))
+  accepts-fitting h f = told ∙ all-hold refuse (refuse 0 0) (stateChecks (t .m) (t .n) (t .terms) s) (mode-holds h, (f .marks-fit, (f .links-fit, (f .waits-fit, (f .clear-fit, (f .counts-fit, tt))))))
 
 module _ {A : Type 0} (answer : ℕ → ℕ → A) (good : A) (m n : ℕ) (ts : List ℕ) (s : State) (r : Refusal) (told : r ≡ checked refuse (refuse 0 0) (stateChecks m n ts s)) where
   pub state-refused : (r .number ≡ 0 → ⊥) → answer (r .number) (r .place) ≡ checked answer good (stateChecks m n ts s)

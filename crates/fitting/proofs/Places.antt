@@ -18,10 +18,11 @@ use Rattle.calculus.specs.Places.{Mode}
 use Rattle.steps.specs.Marks.{Marks}
 use Rattle.steps.specs.InFront.{waiting}
 use Rattle.sheet.specs.Table.{rowAt}
-use Rattle.moves.specs.Fits.{suits, marksFit, markOk, linkOk, held, waitOk, live, clearRow, clearOk}
+use Rattle.moves.specs.Fits.{suits, marksFit, markOk, linkOk, waitOk, clearRow, clearOk}
 use Rattle.flags.specs.Flags.{flagged, Shows}
 use Rattle.flags.proofs.Shown.{shown}
-use Rattle.front.specs.Asked.{nextBy, nextOf, topOf, askedAt}
+use Rattle.front.specs.Asked.{askedAt}
+use Rattle.front.proofs.Asking.{asked-held, asked-live}
 use Rattle.fitting.specs.Checks.{restFit}
 
 module _ (ts : List ℕ) (n : ℕ) (m : Mode) (μ : Marks) where
@@ -62,14 +63,6 @@ rest-all n μ h f = sym (lowest-none (λ k. eqb (μ k) 0) n (256 - n) (λ k low 
 pub link-read : (m : ℕ) (links : List ℕ) (l : ℕ) (r : Bool) → r ≡ cond (ltb l m) (leb (getD links l 0) 2) (eqb (getD links l 0) 0) → linkOk m links l ≡ r
 unfolding linkOk
 link-read m links l r e = sym e
-
-asked-held : (ts : List ℕ) (μ : Marks) (i : ℕ) → askedAt 1 (rowAt ts) μ i ≡ held ts μ i
-unfolding askedAt nextOf nextBy topOf held
-asked-held ts μ i = refl
-
-asked-live : (ts : List ℕ) (μ : Marks) (i : ℕ) → askedAt 2 (rowAt ts) μ i ≡ live ts μ i
-unfolding askedAt nextOf nextBy topOf live
-asked-live ts μ i = refl
 
 module _ (ts : List ℕ) (μ : Marks) (n : ℕ) (t : List ℕ) (i : ℕ) (h : i < n) (r : Bool) where
   pub wait-read : Shows (askedAt 1 (rowAt ts) μ) n t → r ≡ or (not (flagged t i)) (waiting (rowAt ts i) (μ i)) → waitOk ts μ i ≡ r

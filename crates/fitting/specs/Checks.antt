@@ -6,18 +6,20 @@ use Rattle.laws.specs.Checks.{Check}
 use Rattle.steps.specs.Marks.{Marks}
 use Rattle.state.specs.declared.State.{State}
 use Rattle.moves.specs.Steps.{modeOf, marksOf}
-use Rattle.moves.specs.Fits.{modeCheck, marksFit, linksFit, waitsFit, clearFit}
+use Rattle.moves.specs.Fits.{modeCheck, marksFit, linksFit, waitsFit, clearFit, countsFit}
 
-module _ (n : ℕ) (ts : List ℕ) (s : State) where
+module _ (m n : ℕ) (ts : List ℕ) (s : State) where
+  abbrev pub fromE : List Check
+  fromE = countsFit m ts n s ∷ []
+
   abbrev pub fromD : List Check
-  fromD = clearFit ts n (marksOf s) (s .links) ∷ []
+  fromD = clearFit ts n (marksOf s) (s .links) ∷ fromE
 
   abbrev pub fromC : List Check
   fromC = waitsFit ts n (marksOf s) ∷ fromD
 
-module _ (m n : ℕ) (ts : List ℕ) (s : State) where
   abbrev pub fromB : List Check
-  fromB = linksFit m (s .links) ∷ fromC n ts s
+  fromB = linksFit m (s .links) ∷ fromC
 
   abbrev pub fromA : List Check
   fromA = marksFit ts n (modeOf (s .mode)) (marksOf s) ∷ fromB

@@ -1,4 +1,4 @@
-// Does a state fit a table? Each check has a function of its own; the chain of the last five is the order of the checks.
+// Does a state fit a table? Each check has a function of its own; the chain of the last six is the order of the checks.
 ghost use mathlib.Core.Path.{_≡_};
 ghost use mathlib.Core.Logic.{_↔_};
 ghost use Prim.Native.Nat.{_+_, _*_, _<_, _≤_};
@@ -11,9 +11,11 @@ ghost use Rattle.steps.specs.Rows.{Tree};
 ghost use Rattle.steps.specs.InFront.{waiting};
 ghost use Rattle.sheet.specs.Table.{rowAt};
 ghost use Rattle.sheet.specs.Rules.{refuse};
-ghost use Rattle.moves.specs.Steps.{modeOf};
-ghost use Rattle.moves.specs.Fits.{suits, clearRow, modeCheck, marksFit, linksFit, waitsFit, clearFit};
-ghost use Rattle.fitting.specs.Checks.{restFit, fromD, fromC, fromB, fromA, stateChecks};
+ghost use Rattle.moves.specs.Steps.{modeOf, marksOf};
+ghost use Rattle.moves.specs.Fits.{suits, clearRow, countsOk, modeCheck, marksFit, linksFit, waitsFit, clearFit};
+ghost use Rattle.flags.specs.Flags.{Shows};
+ghost use Rattle.front.specs.Asked.{askedAt};
+ghost use Rattle.fitting.specs.Checks.{restFit, fromE, fromD, fromC, fromB, fromA, stateChecks};
 use sheet::Refusal;
 use state::State;
 
@@ -186,12 +188,17 @@ fn bad_wait(ts: &[u8], n: usize, marks: &[u8; 256]) -> usize
     row
 }
 
-// 10 (d): the lowest OUT row of the remainder whose link is set.
-fn bad_clear<'a>(ts: &[u8], n: usize, marks: &'a [u8; 256], links: &'a [u8; 64]) -> usize
-    requires { ⌜ ((n ≤ 256) × ((n * 4 ≤ length (now ts)) × Tree (rowAt (now ts)) n)) × (length (now links) ≡ 64) ⌝ }
+// 10 (d): the lowest OUT row of the remainder whose link is set, from the rows that are live.
+fn bad_clear<'a>(
+    ts: &[u8],
+    n: usize,
+    marks: &'a [u8; 256],
+    links: &'a [u8; 64],
+    live: &[u8; 256],
+) -> usize
+    requires { ⌜ ((n ≤ 256) × (n * 4 ≤ length (now ts))) × ((length (now links) ≡ 64) × Shows (askedAt 2 (rowAt (now ts)) (λ k. getD (now marks) k 0)) n (now live)) ⌝ }
     ensures { λ r. ⌜ r ≡ placeOf (clearFit (now (ts .entry)) n (λ k. getD (now (marks .entry)) k 0) (now (links .entry))) ⌝ }
 {
-    let live = front::ask(front::LIVE, ts, n, marks);
     let mut row = 0;
     while row < n {
         if !clear_ok(live[row], ts, row, marks[row], links) {
@@ -202,14 +209,26 @@ fn bad_clear<'a>(ts: &[u8], n: usize, marks: &'a [u8; 256], links: &'a [u8; 64])
     row
 }
 
-// Check 10 (d), the last.
-fn fit_clear(n: usize, ts: &[u8], s: State) -> Refusal
-    requires { ⌜ (n ≤ 256) × ((n * 4 ≤ length (now ts)) × Tree (rowAt (now ts)) n) ⌝ }
-    ensures { λ r. ⌜ r ≡ checked refuse (refuse 0 0) (fromD n (now (ts .entry)) s) ⌝ }
+// 10 (e): both counts are right.
+fn counts_ok(m: usize, n: usize, ts: &[u8], s: State, live: &[u8; 256]) -> bool
+    requires { ⌜ ((m ≤ 64) × ((n ≤ 256) × ((n * 4 ≤ length (now ts)) × Tree (rowAt (now ts)) n))) × Shows (askedAt 2 (rowAt (now ts)) (marksOf s)) n (now live) ⌝ }
+    ensures { λ r. ⌜ r ≡ countsOk m (now (ts .entry)) n s ⌝ }
 {
-    let place = bad_clear(ts, n, &s.marks, &s.links);
-    if place < n {
-        return Refusal { number: 10, place };
+    let acts = counts::acts(ts, n, &s.marks, live);
+    let unset = counts::unset(m, &s.links);
+    (s.acts == acts) & (s.unset == unset)
+}
+
+// Check 10 (e), the last; the rows that are live are those that (d) was asked of.
+fn fit_counts(m: usize, n: usize, ts: &[u8], s: State, live: &[u8; 256]) -> Refusal
+    requires { ⌜ ((m ≤ 64) × ((n ≤ 256) × ((n * 4 ≤ length (now ts)) × Tree (rowAt (now ts)) n))) × Shows (askedAt 2 (rowAt (now ts)) (marksOf s)) n (now live) ⌝ }
+    ensures { λ r. ⌜ r ≡ checked refuse (refuse 0 0) (fromE m n (now (ts .entry)) s) ⌝ }
+{
+    if !counts_ok(m, n, ts, s, live) {
+        return Refusal {
+            number: 10,
+            place: 0,
+        };
     }
     Refusal {
         number: 0,
@@ -217,33 +236,46 @@ fn fit_clear(n: usize, ts: &[u8], s: State) -> Refusal
     }
 }
 
+// Check 10 (d) and on.
+fn fit_clear(m: usize, n: usize, ts: &[u8], s: State) -> Refusal
+    requires { ⌜ (m ≤ 64) × ((n ≤ 256) × ((n * 4 ≤ length (now ts)) × Tree (rowAt (now ts)) n)) ⌝ }
+    ensures { λ r. ⌜ r ≡ checked refuse (refuse 0 0) (fromD m n (now (ts .entry)) s) ⌝ }
+{
+    let live = front::ask(front::LIVE, ts, n, &s.marks);
+    let place = bad_clear(ts, n, &s.marks, &s.links, &live);
+    if place < n {
+        return Refusal { number: 10, place };
+    }
+    fit_counts(m, n, ts, s, &live)
+}
+
 // Check 10 (c) and on.
-fn fit_waits(n: usize, ts: &[u8], s: State) -> Refusal
-    requires { ⌜ (n ≤ 256) × ((n * 4 ≤ length (now ts)) × Tree (rowAt (now ts)) n) ⌝ }
-    ensures { λ r. ⌜ r ≡ checked refuse (refuse 0 0) (fromC n (now (ts .entry)) s) ⌝ }
+fn fit_waits(m: usize, n: usize, ts: &[u8], s: State) -> Refusal
+    requires { ⌜ (m ≤ 64) × ((n ≤ 256) × ((n * 4 ≤ length (now ts)) × Tree (rowAt (now ts)) n)) ⌝ }
+    ensures { λ r. ⌜ r ≡ checked refuse (refuse 0 0) (fromC m n (now (ts .entry)) s) ⌝ }
 {
     let place = bad_wait(ts, n, &s.marks);
     if place < n {
         return Refusal { number: 10, place };
     }
-    fit_clear(n, ts, s)
+    fit_clear(m, n, ts, s)
 }
 
 // Check 10 (b) and on.
 fn fit_links(m: usize, n: usize, ts: &[u8], s: State) -> Refusal
-    requires { ⌜ (n ≤ 256) × ((n * 4 ≤ length (now ts)) × Tree (rowAt (now ts)) n) ⌝ }
+    requires { ⌜ (m ≤ 64) × ((n ≤ 256) × ((n * 4 ≤ length (now ts)) × Tree (rowAt (now ts)) n)) ⌝ }
     ensures { λ r. ⌜ r ≡ checked refuse (refuse 0 0) (fromB m n (now (ts .entry)) s) ⌝ }
 {
     let place = bad_link(m, &s.links);
     if place < 64 {
         return Refusal { number: 10, place };
     }
-    fit_waits(n, ts, s)
+    fit_waits(m, n, ts, s)
 }
 
 // Check 10 (a) and on.
 fn fit_marks(m: usize, n: usize, ts: &[u8], s: State) -> Refusal
-    requires { ⌜ (n ≤ 256) × ((n * 4 ≤ length (now ts)) × Tree (rowAt (now ts)) n) ⌝ }
+    requires { ⌜ (m ≤ 64) × ((n ≤ 256) × ((n * 4 ≤ length (now ts)) × Tree (rowAt (now ts)) n)) ⌝ }
     ensures { λ r. ⌜ r ≡ checked refuse (refuse 0 0) (fromA m n (now (ts .entry)) s) ⌝ }
 {
     let place = bad_mark(s.mode, ts, n, &s.marks);
@@ -255,7 +287,7 @@ fn fit_marks(m: usize, n: usize, ts: &[u8], s: State) -> Refusal
 
 // The refusal of a state: checks 9 and 10, in order.
 pub fn fit(m: usize, n: usize, ts: &[u8], s: State) -> Refusal
-    requires { ⌜ (n ≤ 256) × ((n * 4 ≤ length (now ts)) × Tree (rowAt (now ts)) n) ⌝ }
+    requires { ⌜ (m ≤ 64) × ((n ≤ 256) × ((n * 4 ≤ length (now ts)) × Tree (rowAt (now ts)) n)) ⌝ }
     ensures { λ r. ⌜ r ≡ checked refuse (refuse 0 0) (stateChecks m n (now (ts .entry)) s) ⌝ }
 {
     let mode = s.mode;

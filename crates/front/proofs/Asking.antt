@@ -9,10 +9,13 @@ use Rattle.laws.specs.Tests.{bit}
 use Rattle.laws.proofs.Tests.{bit-one}
 use Rattle.steps.specs.Rows.{Row, Tree}
 use Rattle.steps.specs.Marks.{Marks}
+use Rattle.steps.specs.InFront.{reached}
 use Rattle.steps.specs.Push.{setIf, handed, Pushed}
 use Rattle.steps.proofs.Push.{pushed-none, pushed-own, pushed-all, pushed-more}
+use Rattle.sheet.specs.Table.{rowAt}
+use Rattle.moves.specs.Fits.{held, live}
 use Rattle.flags.specs.Flags.{flagged, Shows}
-use Rattle.front.specs.Asked.{nextOf, topOf, askedAt}
+use Rattle.front.specs.Asked.{nextBy, nextOf, topOf, askedAt}
 
 start : (b : Bool) → set (replicate 256 0) 0 (bit b) ≡ setIf b 0 (replicate 256 0)
 unfolding setIf
@@ -36,3 +39,16 @@ module _ (q : ℕ) (node : ℕ → Row) (μ : Marks) (n : ℕ) (tree : Tree node
   pub asked-all : (t : List ℕ) → Pushed node (askedAt q node μ) n n t → Shows (askedAt q node μ) n t
   unfolding askedAt
   asked-all t p = let (l, f) = pushed-all node n tree few (topOf q) (λ p s b. nextOf q (node p) (μ p) s b) t p in record { size = l; at = f }
+
+-- the questions, by their names
+pub asked-reached : (node : ℕ → Row) (μ : Marks) (i : ℕ) → askedAt 0 node μ i ≡ reached node μ i
+unfolding askedAt nextOf nextBy topOf reached
+asked-reached node μ i = refl
+
+pub asked-held : (ts : List ℕ) (μ : Marks) (i : ℕ) → askedAt 1 (rowAt ts) μ i ≡ held ts μ i
+unfolding askedAt nextOf nextBy topOf held
+asked-held ts μ i = refl
+
+pub asked-live : (ts : List ℕ) (μ : Marks) (i : ℕ) → askedAt 2 (rowAt ts) μ i ≡ live ts μ i
+unfolding askedAt nextOf nextBy topOf live
+asked-live ts μ i = refl

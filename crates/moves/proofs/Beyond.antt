@@ -17,7 +17,7 @@ use Rattle.laws.proofs.Up.{up-same}
 use Rattle.laws.proofs.Down.{down-same}
 use Rattle.laws.proofs.Listed.{listed-same}
 use Rattle.laws.proofs.Checks.{checked-same}
-use Rattle.calculus.specs.Process.{act, out, join}
+use Rattle.calculus.specs.Process.{Process, act, out, join}
 use Rattle.calculus.specs.Status.{Value, Links}
 use Rattle.calculus.specs.Places.{Turn, takes, drops, Mode}
 use Rattle.calculus.specs.Steps.{turnOf}
@@ -31,10 +31,10 @@ use Rattle.sheet.specs.Accepted.{WellFormed}
 use Rattle.sheet.proofs.Beyond.{row-same, condition-same}
 use Rattle.worth.specs.Worth.{awaitedAt, worthBy, worthOf, waitByte}
 use Rattle.state.specs.declared.State.{State}
-use Rattle.state.specs.State.{decideOf}
-use Rattle.moves.specs.Steps.{modeOf, marksOf, linksOf, nodes, remainderIn, turnBy, turnAt, kindTurned, kindAt, isSome, hasStep, listedOf, falsified, otherOf, decidedOf, climbBy, idle, climbed, takenOf, droppedOf, steppedBy, steppedOf}
+use Rattle.state.specs.State.{decideOf, withCounts}
+use Rattle.moves.specs.Steps.{modeOf, marksOf, linksOf, nodes, remainderIn, leftIn, turnBy, turnAt, kindTurned, kindAt, isSome, hasStep, listedOf, falsified, otherOf, decidedOf, climbBy, idle, climbed, takenOf, droppedOf, actsOf, unsetOf, counted, steppedBy, steppedOf}
 use Rattle.moves.specs.Standing.{joinInFront, joinsOf, waitingBy, waitingOf, awaitedOf, awaitsOf}
-use Rattle.moves.specs.Fits.{suits, markOk, held, waitOk, keeps, live, clearRow, clearOk, marksFit, linksFit, waitsFit, clearFit, fitChecks}
+use Rattle.moves.specs.Fits.{suits, markOk, held, waitOk, keeps, live, clearRow, clearOk, marksFit, linksFit, waitsFit, clearFit, countsOk, countsFit, fitChecks}
 use Rattle.moves.proofs.Standing.{join-below, join-inside, awaits-by}
 
 front-out : (node : ℕ → Row) (μ : Marks) (n r : ℕ) → n ≤ r → inFront node μ n r ≡ false
@@ -115,6 +115,13 @@ module _ (n : ℕ) (ts ts′ : List ℕ) (same : (i : ℕ) → i < n → rowAt t
   unfolding droppedOf
   dropped-same s r h = rw (falsified-same (marksOf s) (firstOf (rowAt ts r)) _, same r h) refl
 
+-- the counts are the same
+cut-left : (t : Table) (s : State) → leftIn t s ≡ leftIn (cut t) s
+cut-left t s = remainder-same (t .n) (t .terms) (cut t .terms) (λ i h. sym (row-same (t .n) (t .terms) i h)) (marksOf s) 0
+
+pub cut-counted : (t : Table) (s : State) → counted t s ≡ counted (cut t) s
+cut-counted t s = ap (λ (P : Process). withCounts s (actsOf P) (unsetOf (t .m) (linksOf s))) (cut-left t s)
+
 -- THE STATE FITS a table as it fits the table without the places beyond
 module _ {A : Type 0} (answer : ℕ → ℕ → A) (good : A) (t : Table) (s : State) where
   rows : (i : ℕ) → i < t .n → rowAt (t .terms) i ≡ rowAt (cut t .terms) i
@@ -132,13 +139,18 @@ module _ {A : Type 0} (answer : ℕ → ℕ → A) (good : A) (t : Table) (s : S
   unfolding clearOk
   clear-same i h = ap₂ (λ (b : Bool) (N : Row). or (not b) (clearRow N (marksOf s i) (s .links))) (live-same (t .n) (t .terms) (cut t .terms) rows (marksOf s) i h) (rows i h)
 
+  counts-same : countsOk (t .m) (t .terms) (t .n) s ≡ countsOk (t .m) (cut t .terms) (t .n) s
+  unfolding countsOk
+  counts-same = ap (λ (P : Process). eqb (s .acts) (actsOf P) && eqb (s .unset) (unsetOf (t .m) (linksOf s))) (cut-left t s)
+
   pub cut-fits : checked answer good (fitChecks t s) ≡ checked answer good (fitChecks (cut t) s)
   cut-fits =
       checked-same answer good (marksFit (t .terms) (t .n) (modeOf (s .mode)) (marksOf s)) _ _ _ (λ p a b. mark-same p)
       (λ x. checked-same answer good (linksFit (t .m) (s .links)) _ _ _ (λ p a b. refl)
       (λ x. checked-same answer good (waitsFit (t .terms) (t .n) (marksOf s)) _ _ _ (λ p a b. wait-same p b)
       (λ x. checked-same answer good (clearFit (t .terms) (t .n) (marksOf s) (s .links)) _ _ _ (λ p a b. clear-same p b)
-      (λ x. refl))))
+      (λ x. checked-same answer good (countsFit (t .m) (t .terms) (t .n) s) _ _ _ (λ p a b. counts-same)
+      (λ x. refl)))))
 
 -- a row's turn, where the value of its condition is the same
 turn-by : (eval eval′ : ℕ → Links → Value) (m : Mode) (v : Links) (N : Row) → ((q c : ℕ) → N ≡ PREFIX (join q) c → eval q ≡ eval′ q) → turnBy (λ π. turnOf eval m π v) N ≡ turnBy (λ π. turnOf eval′ m π v) N
@@ -207,8 +219,8 @@ module _ (t : Table) (w : WellFormed t) (s : State) where
   stepped-by : (r : ℕ) → r < t .n → (o : Option Turn) → steppedBy t s r o ≡ steppedBy (cut t) s r o
   unfolding steppedBy
   stepped-by r h none = refl
-  stepped-by r h (some takes) = taken-same (t .n) (t .terms) (cut t .terms) same s r h
-  stepped-by r h (some drops) = dropped-same (t .n) (t .terms) (cut t .terms) same s r h
+  stepped-by r h (some takes) = ap (counted t) (taken-same (t .n) (t .terms) (cut t .terms) same s r h) ∙ cut-counted t (takenOf (cut t .terms) (t .n) s r)
+  stepped-by r h (some drops) = ap (counted t) (dropped-same (t .n) (t .terms) (cut t .terms) same s r h) ∙ cut-counted t (droppedOf (cut t .terms) (t .n) s r)
 
   pub cut-stepped : (r : ℕ) → steppedOf t s r ≡ steppedOf (cut t) s r
   unfolding steppedOf steppedBy

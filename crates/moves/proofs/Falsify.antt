@@ -39,7 +39,7 @@ set-cases xs r a k =
     (λ e. inr (getD-set-other xs r k a 0 e))
 
 -- a state of the right size stays so
-pub sized-mark : (s : State) (r a : ℕ) → Sized s → Sized (record { mode = s .mode; marks = set (s .marks) r a; links = s .links })
+pub sized-mark : (s : State) (r a : ℕ) → Sized s → Sized (record { mode = s .mode; marks = set (s .marks) r a; links = s .links; acts = s .acts; unset = s .unset })
 sized-mark s r a z = record { all-marks = length-set (s .marks) r a ∙ z .all-marks; all-links = z .all-links }
 
 pub sized-link : (s : State) (l v : ℕ) → Sized s → Sized (setOf s l v)

@@ -11,7 +11,8 @@ use lib.Dec.{eqb, ltb}
 use lib.ListN.{getD}
 use borrow.Author.Tests.{lt-ltb, le-ltb, leb-true, le-leb, eqb-true, eq-eqb}
 use Rattle.laws.specs.Tests.{or}
-use Rattle.laws.proofs.Tests.{not-both, refuted, cond-all, implied, implies}
+use Rattle.laws.specs.Checks.{Holds}
+use Rattle.laws.proofs.Tests.{not-both, refuted, cond-all, implied, implies, self}
 use Rattle.laws.proofs.Up.{getD-constant}
 use Rattle.calculus.specs.Process.{Process, Prefix, act, out, join, pick, flow}
 use Rattle.calculus.specs.Status.{Value, Links}
@@ -25,8 +26,8 @@ use Rattle.sheet.specs.Table.{Table, rowAt, evalIn}
 use Rattle.sheet.specs.Accepted.{WellFormed, SingleSource}
 use Rattle.state.specs.declared.State.{State}
 use Rattle.state.specs.State.{freshOf, sideMark}
-use Rattle.moves.specs.Steps.{modeOf, marksOf, linksOf, Sized, nodes, leftIn, turnAt, hasStep, isWaitingPick, steppedOf}
-use Rattle.moves.specs.Fits.{suitsPrefix, suitsBranch, suits, markOk, linkOk, held, waitOk, live, clearPrefix, clearRow, clearOk, Fits}
+use Rattle.moves.specs.Steps.{modeOf, marksOf, linksOf, Sized, nodes, leftIn, turnAt, hasStep, isWaitingPick, takenOf, droppedOf, actsOf, unsetOf, counted, steppedBy, steppedOf, startOf}
+use Rattle.moves.specs.Fits.{suitsPrefix, suitsBranch, suits, markOk, linkOk, held, waitOk, live, clearPrefix, clearRow, clearOk, countsOk, countsFit, Fits}
 use Rattle.moves.proofs.Falsify.{unset-zero, zero-unset}
 use Rattle.moves.proofs.StateAfter.{Is, sets-below}
 use Rattle.moves.proofs.Moves.{has-turn, turn-fronts, turn-parts, stepped-at, left-at, links-at}
@@ -61,16 +62,22 @@ unset-clears (PREFIX (out l b) c) m links z = implied (waitsBy (stand m)) (λ e.
 unset-clears (PREFIX (join q) c) m links z = implied (waitsBy (stand m)) (λ e. refl)
 unset-clears (BRANCH κ p q) m links z = refl
 
-pub fresh-sized : (mode : ℕ) → Sized (freshOf mode)
-fresh-sized mode = record { all-marks = refl; all-links = refl }
+pub fresh-sized : (t : Table) (mode : ℕ) → Sized (startOf t mode)
+fresh-sized t mode = record { all-marks = refl; all-links = refl }
 
-pub fresh-fits : (t : Table) (mode : ℕ) → Fits t (freshOf mode)
+-- a state that was counted has the right counts
+right-counts : (t : Table) (s : State) → Holds (countsFit (t .m) (t .terms) (t .n) (counted t s))
+unfolding countsOk
+right-counts t s _ _ _ = rw (self (actsOf (leftIn t s)), self (unsetOf (t .m) (linksOf s))) refl
+
+pub fresh-fits : (t : Table) (mode : ℕ) → Fits t (startOf t mode)
 unfolding markOk linkOk waitOk clearOk
 fresh-fits t mode = record {
   marks-fit = λ i _ _. rw (getD-constant {A = ℕ} 0 256 i) (cond-all (λ (b : Bool). b ≡ true) (ltb i (t .n)) (zero-suits (modeOf mode) (rowAt (t .terms) i)) refl);
   links-fit = λ l _ _. rw (getD-constant {A = ℕ} 0 64 l) (cond-all (λ (b : Bool). b ≡ true) (ltb l (t .m)) refl refl);
   waits-fit = λ i _ _. implied (held (t .terms) (marksOf (freshOf mode)) i) (λ e. rw (getD-constant {A = ℕ} 0 256 i) (zero-waits (rowAt (t .terms) i)));
   clear-fit = λ i _ _. implied (live (t .terms) (marksOf (freshOf mode)) i) (λ e. unset-clears (rowAt (t .terms) i) (marksOf (freshOf mode) i) (freshOf mode .links) (λ l. getD-constant {A = ℕ} 0 64 l));
+  counts-fit = right-counts t (freshOf mode);
 }
 
 -- A FITTING STATE IS VALID
@@ -205,6 +212,15 @@ module _ (t : Table) (w : WellFormed t) (s : State) (size : Sized s) (r : ℕ) (
       clear-kept : (k : ℕ) → k < t .n → clearOk (t .terms) (marksOf z) (z .links) k ≡ true
       clear-kept = clear-rows (t .terms) (t .n) (w .tree .kids) (w .tree .once) (marksOf z) (z .links) (λ l q. unset-zero (z .links) l (omega (arith, sets-below t w z 0 l (w .tree .some-row) q, w .few-links)) (valid-kept .clear l q))
 
+      -- (e)
+      counts-kept : Holds (countsFit (t .m) (t .terms) (t .n) z)
+      unfolding steppedOf steppedBy
+      counts-kept = rw e (by-turn u)
+        where
+          by-turn : (u : Turn) → Holds (countsFit (t .m) (t .terms) (t .n) (steppedBy t s r (some u)))
+          by-turn takes = right-counts t (takenOf (t .terms) (t .n) s r)
+          by-turn drops = right-counts t (droppedOf (t .terms) (t .n) s r)
+
       all-kept : Fits t z
       unfolding markOk
       all-kept = record {
@@ -212,6 +228,7 @@ module _ (t : Table) (w : WellFormed t) (s : State) (size : Sized s) (r : ℕ) (
         links-fit = λ l _ h. links-kept l h;
         waits-fit = λ k _ h. waits-kept k h;
         clear-fit = λ k _ h. clear-kept k h;
+        counts-fit = counts-kept;
       }
 
 pub fits-step : (t : Table) → WellFormed t → SingleSource t → (s : State) → Sized s → (r : ℕ) → hasStep t s r ≡ true → Fits t s → Fits t (steppedOf t s r)

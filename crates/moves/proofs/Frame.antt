@@ -44,7 +44,7 @@ module _ (t : Table) (w : WellFormed t) (s : State) (r : ℕ) where
   like : (u : Turn) (y z : State) → y .marks ≡ z .marks → Frames t s r u z → Frames t s r u y
   like u y z e f = subst (λ (xs : List ℕ). (k : ℕ) → (getD xs k 0 ≡ marksOf s k) ⊎ Change t s r u k (getD xs k 0)) (sym e) f
 
-  one-mark : (u : Turn) (z : State) (p a : ℕ) → Change t s r u p a → Frames t s r u z → Frames t s r u (record { mode = z .mode; marks = set (z .marks) p a; links = z .links })
+  one-mark : (u : Turn) (z : State) (p a : ℕ) → Change t s r u p a → Frames t s r u z → Frames t s r u (record { mode = z .mode; marks = set (z .marks) p a; links = z .links; acts = z .acts; unset = z .unset })
   one-mark u z p a c f k =
       ⊎-elim (λ e. inr (subst₂ (Change t s r u) (sym (e .0)) (sym (e .1)) c))
       (λ e. subst (λ (x : ℕ). (x ≡ marksOf s k) ⊎ Change t s r u k x) (sym e) (f k)) (set-cases (z .marks) p a k)

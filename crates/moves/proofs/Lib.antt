@@ -8,6 +8,7 @@ pub mod Decided
 pub mod Held
 pub mod Below
 pub mod Clear
+pub mod Counts
 pub mod Small
 pub mod Fits
 pub mod Beyond

@@ -27,7 +27,7 @@ use Rattle.state.specs.declared.State.{State}
 use Rattle.state.specs.declared.StepKind.{StepKind}
 use Rattle.state.specs.declared.StepKind.the-variants.{Act, Set, Open, Clean, Refused}
 use Rattle.moves.specs.Steps.{modeOf, marksOf, linksOf, Sized, nodes, leftIn, turnBy, turnAt, kindOf, kindIn, kindBy, kindTurned, kindAt, isSome, hasStep, steppedBy, steppedOf, Listed}
-use Rattle.moves.proofs.StateAfter.{Is, At, taken-at, dropped-at}
+use Rattle.moves.proofs.StateAfter.{Is, is-counted, At, taken-at, dropped-at}
 
 no-turn : {u : Turn} → none ≡ some u → ⊥
 no-turn e = true≢false (sym (ap isSome e))
@@ -109,8 +109,8 @@ module _ (t : Table) (s : State) (r : ℕ) where
     -- the step of a turn leaves what the calculus says
     pub stepped-at : (u : Turn) → turnAt t s r ≡ some u → (f : Fronts u) → At t w s r (f .1) u (steppedOf t s r) (leftIn t s)
     unfolding steppedOf steppedBy
-    stepped-at takes e (f, π, c, p, o) = let (h, g, q) = front-parts π c p f in rw e (taken-at t w s r π size c p h q g)
-    stepped-at drops e (f, π, c, p, o) = let (h, g, q) = front-parts π c p f in rw e (dropped-at t w s r π size c p h q g)
+    stepped-at takes e (f, π, c, p, o) = let (h, g, q) = front-parts π c p f in let (x, a, b, i) = taken-at t w s r π size c p h q g in rw e (x, a, b, is-counted _ _ i)
+    stepped-at drops e (f, π, c, p, o) = let (h, g, q) = front-parts π c p f in let (x, a, b, i) = dropped-at t w s r π size c p h q g in rw e (x, a, b, is-counted _ _ i)
 
 module _ (t : Table) (w : WellFormed t) (s : State) (size : Sized s) where
   abbrev eval : ℕ → Links → Value

@@ -22,7 +22,7 @@ use Rattle.steps.proofs.InFront.{passed-is, reached-induction}
 use Rattle.sheet.specs.Table.{Table}
 use Rattle.sheet.specs.Accepted.{WellFormed}
 use Rattle.state.specs.declared.State.{State}
-use Rattle.state.specs.State.{passOf, dropOf, decideOf, sideMark}
+use Rattle.state.specs.State.{passOf, dropOf, decideOf, withCounts, sideMark}
 use Rattle.moves.specs.Steps.{modeOf, marksOf, linksOf, Sized, nodes, remainderIn, falsifyFrom, falsified, isWaitingPick, otherOf, decidedOf, ownLink, ownOf, takenOf, droppedOf}
 use Rattle.moves.proofs.Falsify.{set-mark, sized-mark, sized-link, link-set, falsify-sized, falsify-marks, falsify-mode, falsify-links}
 use Rattle.moves.proofs.Climb.{climb-induction}
@@ -33,6 +33,10 @@ pub record Is (s : State) (u : Turn) (z : State) (P : Process) (x : Place P) : T
   pub same-mode : z .mode ≡ s .mode
   pub marks-are : (k : ℕ) → marksOf z k ≡ marked u P x (marksOf s) k
   pub links-are : (k : ℕ) → linksOf z k ≡ over (effect u (falsifies (modeOf (s .mode))) P x k) (linksOf s k)
+
+-- the counts are no part of it
+pub is-counted : {s : State} {u : Turn} {z : State} {P : Process} {x : Place P} (a b : ℕ) → Is s u z P x → Is s u (withCounts z a b) P x
+is-counted a b i = record { sized = record { all-marks = i .sized .all-marks; all-links = i .sized .all-links }; same-mode = i .same-mode; marks-are = i .marks-are; links-are = i .links-are }
 
 over-assoc : (a b c : Value) → over (over a b) c ≡ over a (over b c)
 over-assoc Unset b c = refl

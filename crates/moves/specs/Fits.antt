@@ -1,4 +1,4 @@
--- Document 01: "A state fits a sheet if: (a) marks suit their rows and mode, and are 0 from row n on; (b) link values are 0 to 2, and 0 from link m on; (c) every row below a waiting ACT, OUT or JOIN waits; (d) each link set by the remainder is unset." As checks, with their places.
+-- Document 01: "A state fits a sheet if: (a) marks suit their rows and mode, and are 0 from row n on; (b) link values are 0 to 2, and 0 from link m on; (c) every row below a waiting ACT, OUT or JOIN waits; (d) each link set by the remainder is unset." Document 02, request 6: "10 gets a fifth part (e), a wrong count, place 0, checked last." As checks, with their places.
 use mathlib.Core.Bool.{Bool, true, false, cond, _&&_, not}
 use mathlib.Core.List.{List, [], _∷_}
 use Prim.Native.Nat.{ℕ, suc}
@@ -13,7 +13,7 @@ use Rattle.steps.specs.Marks.{Marks, Stand, waits, passed, dropped, stand, open
 use Rattle.steps.specs.InFront.{waitsBy, waiting, waitingStep, opens, inherited}
 use Rattle.sheet.specs.Table.{Table, rowAt}
 use Rattle.state.specs.declared.State.{State}
-use Rattle.moves.specs.Steps.{modeOf, marksOf}
+use Rattle.moves.specs.Steps.{modeOf, marksOf, linksOf, remainderIn, actsOf, unsetOf}
 
 -- (a) "0 waiting; 1 passed (ACT, OUT, JOIN); 2 left taken, 3 right taken (PICK); 4 dropped (JOIN, cleaning only). NIL and FLOW stay 0."
 unfoldable pub suitsPrefix : Mode → Prefix → ℕ → Bool
@@ -87,13 +87,21 @@ waitsFit ts n μ = record { number = 10; from = 0; upto = n; rule = waitOk ts μ
 abbrev pub clearFit : List ℕ → ℕ → Marks → List ℕ → Check
 clearFit ts n μ links = record { number = 10; from = 0; upto = n; rule = clearOk ts μ links }
 
+-- (e) both counts are right: it has one place, 0
+unfoldable pub countsOk : ℕ → List ℕ → ℕ → State → Bool
+countsOk m ts n s = eqb (s .acts) (actsOf (remainderIn ts n (marksOf s) 0)) && eqb (s .unset) (unsetOf m (linksOf s))
+
+abbrev pub countsFit : ℕ → List ℕ → ℕ → State → Check
+countsFit m ts n s = record { number = 10; from = 0; upto = 1; rule = λ _. countsOk m ts n s }
+
 abbrev pub fitChecks : Table → State → List Check
 fitChecks t s =
     marksFit (t .terms) (t .n) (modeOf (s .mode)) (marksOf s)
     ∷ (linksFit (t .m) (s .links)
     ∷ (waitsFit (t .terms) (t .n) (marksOf s)
     ∷ (clearFit (t .terms) (t .n) (marksOf s) (s .links)
-    ∷ [])))
+    ∷ (countsFit (t .m) (t .terms) (t .n) s
+    ∷ []))))
 
 -- the state fits
 pub record Fits (t : Table) (s : State) : Type 0 where
@@ -101,3 +109,4 @@ pub record Fits (t : Table) (s : State) : Type 0 where
   pub links-fit : Holds (linksFit (t .m) (s .links))
   pub waits-fit : Holds (waitsFit (t .terms) (t .n) (marksOf s))
   pub clear-fit : Holds (clearFit (t .terms) (t .n) (marksOf s) (s .links))
+  pub counts-fit : Holds (countsFit (t .m) (t .terms) (t .n) s)

@@ -10,8 +10,7 @@ use Rattle.sheet.specs.Table.{Table}
 use Rattle.state.specs.declared.State.{State}
 use Rattle.state.specs.declared.StepKind.{StepKind}
 use Rattle.state.specs.declared.StepKind.the-variants.{Act, Set, Open, Clean, Refused}
-use Rattle.state.specs.State.{freshOf}
-use Rattle.moves.specs.Steps.{linksOf, kindAt, hasStep, steppedOf}
+use Rattle.moves.specs.Steps.{linksOf, kindAt, hasStep, steppedOf, startOf}
 
 pub data Run (t : Table) : State → Type 0 where
   done : {s : State} → Run t s
@@ -53,7 +52,7 @@ pub record Alike (t : Table) (s z : State) : Type 0 where
 
 -- Demand 3: started fresh, without cleaning (mode 0) and with it (mode 1).
 pub record Demand3 (t : Table) : Type 0 where
-  pub forth : (G : Run t (freshOf 0)) → (H : Run t (freshOf 1)) × (taken H ≡ taken G) × Alike t (last G) (last H)
-  pub back : (H : Run t (freshOf 1)) → (G : Run t (freshOf 0)) × (taken G ≡ struck (taken H)) × Alike t (last G) (last H)
-  pub pair : (G : Run t (freshOf 0)) (H : Run t (freshOf 1)) → rowsOf (taken G) ≡ rowsOf (struck (taken H)) → Alike t (last G) (last H)
-  pub stay : (mode : ℕ) (G : Run t (freshOf mode)) (K : Run t (last G)) → Grows (linksOf (last G)) (linksOf (last K))
+  pub forth : (G : Run t (startOf t 0)) → (H : Run t (startOf t 1)) × (taken H ≡ taken G) × Alike t (last G) (last H)
+  pub back : (H : Run t (startOf t 1)) → (G : Run t (startOf t 0)) × (taken G ≡ struck (taken H)) × Alike t (last G) (last H)
+  pub pair : (G : Run t (startOf t 0)) (H : Run t (startOf t 1)) → rowsOf (taken G) ≡ rowsOf (struck (taken H)) → Alike t (last G) (last H)
+  pub stay : (mode : ℕ) (G : Run t (startOf t mode)) (K : Run t (last G)) → Grows (linksOf (last G)) (linksOf (last K))

@@ -1,20 +1,22 @@
 -- Document 01, "State and steps": which step a row has in a state, the list of steps, and the state after a step. Every definition is total: any table, any state, any row.
-use mathlib.Core.Bool.{Bool, true, false, cond}
+use mathlib.Core.Bool.{Bool, true, false, cond, not}
 use mathlib.Core.Path.{_≡_}
 use mathlib.Core.Option.{Option, none, some}
 use mathlib.Core.List.{List}
-use Prim.Native.Nat.{ℕ, zero, suc}
+use Prim.Native.Nat.{ℕ, zero, suc, _+_}
 use lib.Dec.{eqb, ltb}
 use lib.ListN.{getD, length}
-use Rattle.laws.specs.Tests.{bit}
+use Rattle.laws.specs.Tests.{or, bit}
 use Rattle.laws.specs.Up.{up}
 use Rattle.laws.specs.Listed.{listed}
-use Rattle.calculus.specs.Process.{Process, Prefix, act, out, join, pick, flow}
+use Rattle.laws.specs.Sums.{count}
+use Rattle.calculus.specs.Process.{Process, nil, prefix, branch, Prefix, act, out, join, pick, flow}
 use Rattle.calculus.specs.Status.{Links, truth}
 use Rattle.calculus.specs.Plain.{Label, step, clean}
 use Rattle.calculus.specs.Places.{sets, Turn, takes, drops, Mode, plain, cleaning, falsifies}
 use Rattle.calculus.specs.Rows.{row-of}
 use Rattle.calculus.specs.Steps.{turnOf}
+use Rattle.conditions.specs.Conditions.{isSet}
 use Rattle.conditions.specs.Numbers.{digit}
 use Rattle.steps.specs.Rows.{Row, NIL, PREFIX, BRANCH, firstOf, secondOf, term}
 use Rattle.steps.specs.Marks.{Marks, open-branches, remainder}
@@ -24,7 +26,7 @@ use Rattle.evaluate.specs.Values.{linksIn}
 use Rattle.state.specs.declared.State.{State}
 use Rattle.state.specs.declared.StepKind.{StepKind}
 use Rattle.state.specs.declared.StepKind.the-variants.{Act, Set, Open, Clean, Refused}
-use Rattle.state.specs.State.{passOf, dropOf, decideOf, setOf}
+use Rattle.state.specs.State.{freshOf, passOf, dropOf, decideOf, setOf, withCounts}
 
 -- A state as the calculus reads it: "the mode (0 plain, 1 cleaning), one mark for each of 256 rows and one value for each of 64 links".
 unfoldable pub modeOf : ℕ → Mode
@@ -151,11 +153,41 @@ takenOf ts n s r = climbed ts n s r (ownOf (rowAt ts r) (passOf s r))
 unfoldable pub droppedOf : List ℕ → ℕ → State → ℕ → State
 droppedOf ts n s r = falsified ts n (marksOf s) (firstOf (rowAt ts r)) (dropOf s r)
 
--- the state after the step of row r; the state itself where the row has no step
+-- Document 02, request 6: "The state gains two numbers: ACT rows in the remainder, and unset links among the sheet's m."
+unfoldable pub actsOf : Process → ℕ
+actsOf (nil r) = 0
+actsOf (prefix r (act a) P) = suc (actsOf P)
+actsOf (prefix r (out l b) P) = actsOf P
+actsOf (prefix r (join c) P) = actsOf P
+actsOf (branch r κ P Q) = actsOf P + actsOf Q
+
+-- ... and row k is one of them
+unfoldable pub actIn : Process → ℕ → Bool
+actIn (nil r) k = false
+actIn (prefix r (act a) P) k = or (eqb k r) (actIn P k)
+actIn (prefix r (out l b) P) k = actIn P k
+actIn (prefix r (join c) P) k = actIn P k
+actIn (branch r κ P Q) k = or (actIn P k) (actIn Q k)
+
+unfoldable pub unsetOf : ℕ → Links → ℕ
+unsetOf m v = count (λ l. not (isSet (v l))) m
+
+-- the state with its two numbers, by the rows of the sheet and its m
+abbrev pub countedIn : ℕ → List ℕ → ℕ → State → State
+countedIn m ts n s = withCounts s (actsOf (remainderIn ts n (marksOf s) 0)) (unsetOf m (linksOf s))
+
+abbrev pub counted : Table → State → State
+counted t = countedIn (t .m) (t .terms) (t .n)
+
+-- "A fresh state carries them too."
+abbrev pub startOf : Table → ℕ → State
+startOf t mode = counted t (freshOf mode)
+
+-- the state after the step of row r, "kept true by every step"; the state itself where the row has no step
 unfoldable pub steppedBy : Table → State → ℕ → Option Turn → State
 steppedBy t s r none = s
-steppedBy t s r (some takes) = takenOf (t .terms) (t .n) s r
-steppedBy t s r (some drops) = droppedOf (t .terms) (t .n) s r
+steppedBy t s r (some takes) = counted t (takenOf (t .terms) (t .n) s r)
+steppedBy t s r (some drops) = counted t (droppedOf (t .terms) (t .n) s r)
 
 unfoldable pub steppedOf : Table → State → ℕ → State
 steppedOf t s r = steppedBy t s r (turnAt t s r)

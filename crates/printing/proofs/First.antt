@@ -12,7 +12,8 @@ use lib.Seq.{length-take-le, take-all, take-append-le}
 use borrow.Author.Tests.{leb-true, lt-leb}
 use Rattle.laws.specs.Checks.{AllHold}
 use Rattle.laws.proofs.Tests.{and-r, and-false}
-use Rattle.laws.proofs.Checks.{checked-good, all-hold}
+use Rattle.laws.proofs.Sums.{count-upto}
+use Rattle.laws.proofs.Checks.{hold-append, checked-good, all-hold}
 use Rattle.steps.specs.InFront.{waitingStep, waitingSteps}
 use Rattle.sheet.specs.declared.Refusal.{Refusal}
 use Rattle.sheet.specs.Table.{Table}
@@ -20,8 +21,7 @@ use Rattle.sheet.specs.Rules.{tableChecks, refuse, refusalOf}
 use Rattle.sheet.specs.Sheet.{numberAt, sheetSize, contents, tableIn, sheetChecks}
 use Rattle.sheet.proofs.Refusals.{one-place-fails}
 use Rattle.state.specs.declared.State.{State}
-use Rattle.state.specs.State.{freshOf}
-use Rattle.moves.specs.Steps.{marksOf, nodes, kindAt, hasStep, steppedOf}
+use Rattle.moves.specs.Steps.{marksOf, nodes, kindAt, hasStep, steppedOf, startOf}
 use Rattle.moves.specs.Fits.{modeCheck}
 use Rattle.moves.specs.Runs.{Run, done, taken}
 use Rattle.moves.specs.Runs as runs
@@ -33,7 +33,6 @@ use Rattle.promises.proofs.Fresh.{fresh-state}
 use Rattle.lines.specs.Lines.{refusedLine, verdictLine, stepLine}
 use Rattle.printing.specs.Printed.{modeIn, sizeIn, sheetIn, rowsIn, stepLines, runLines, sheetLines, printed}
 use Rattle.printing.proofs.Judging.{whole-goes, cut-refused}
-use Rattle.printing.proofs.Room.{count-few, split}
 
 -- either a run takes all the rows, or those behind them are never come to
 steps-upto : (t : Table) (s : State) (xs ys : List ℕ) → Accepted t s → ((R : Run t s) × (length (taken R) ≡ length xs)) ⊎ (stepLines t s (xs ++ ys) ≡ stepLines t s xs)
@@ -52,17 +51,17 @@ run-upto t mode xs ys e m h =
     ⊎-elim
     (λ p.
     let l = run-length t (formed g) (g .sized) (p .0) in
-    let c = count-few (λ r. waitingStep (nodes t r) (marksOf (freshOf mode) r)) (t .n) in
+    let c = count-upto (λ r. waitingStep (nodes t r) (marksOf (startOf t mode) r)) (t .n) in
     absurd (omega (arith, l, c, p .1, h, formed g .few-terms)))
     (λ q. ap (λ (l : List ℕ). verdictLine (verdictAnswer t) ++ l) q)
-    (steps-upto t (freshOf mode) xs ys g)
+    (steps-upto t (startOf t mode) xs ys g)
 
 sheet-upto : (mode : ℕ) (s xs ys : List ℕ) → (length s ≤ 2066 → 256 < length xs) → sheetLines mode s (xs ++ ys) ≡ sheetLines mode s xs
 unfolding sheetLines AllHold refusalOf
 sheet-upto mode s xs ys many =
     checked-good refusedLine (runLines (tableIn s) mode (xs ++ ys)) (runLines (tableIn s) mode xs) (sheetChecks s ++ (modeCheck mode ∷ []))
     (λ h.
-    let (a, b) = split (sheetChecks s) (modeCheck mode ∷ []) h in
+    let (a, b) = hold-append (sheetChecks s) (modeCheck mode ∷ []) .0 h in
     run-upto (tableIn s) mode xs ys (ap (λ (r : Refusal). r .number) (all-hold refuse (refuse 0 0) (tableChecks (tableIn s)) (a .1 .1))) (leb-true mode 1 (b .0 mode (omega arith) (omega arith))) (many (leb-true (length s) 2066 (and-r (leb 22 (length s)) _ (a .0 0 (omega arith) (omega arith))))))
 
 -- a sheet that is too long

@@ -21,7 +21,7 @@ use Rattle.codec.specs.declared.SheetAnswer.the-variants as sheet
 use Rattle.codec.specs.Answers.{readOf, partOf}
 use Rattle.codec.proofs.Judged.{accepted-is}
 use Rattle.codec.proofs.Parts.{part-whole}
-use Rattle.state.specs.State.{freshOf}
+use Rattle.moves.specs.Steps.{startOf}
 use Rattle.moves.specs.Fits.{modeCheck}
 use Rattle.sheet_engine.specs.declared.VerdictAnswer.{VerdictAnswer}
 use Rattle.sheet_engine.specs.declared.Started.{Started}
@@ -36,7 +36,7 @@ use Rattle.printing.specs.Printed.{modeIn, sizeIn, sheetIn, rowsIn, comp
 module _ (t : Table) (mode : ℕ) (a : Started) (told : a ≡ startAnswer t mode) where
   begun : refuse (a .number) (a .place) ≡ checked refuse (refuse 0 0) (startChecks t mode)
   unfolding startAnswer
-  begun = ap (λ (r : Started). refuse (r .number) (r .place)) told ∙ checked-map (λ (r : Started). refuse (r .number) (r .place)) notStarted (started 0 0 (freshOf mode)) (startChecks t mode)
+  begun = ap (λ (r : Started). refuse (r .number) (r .place)) told ∙ checked-map (λ (r : Started). refuse (r .number) (r .place)) notStarted (started 0 0 (startOf t mode)) (startChecks t mode)
 
   pub run-refused : (rows : List ℕ) → (a .number ≡ 0 → ⊥) → refusedLine (a .number) (a .place) ≡ checked refusedLine (runLines t mode rows) (startChecks t mode)
   unfolding without
@@ -45,7 +45,7 @@ module _ (t : Table) (mode : ℕ) (a : Started) (told : a ≡ startAnswer t mode
   number-is : a .number ≡ 0 → startAnswer t mode .number ≡ 0
   number-is e = ap (λ (r : Started). r .number) (sym told) ∙ e
 
-  fresh : a .number ≡ 0 → a .state ≡ freshOf mode
+  fresh : a .number ≡ 0 → a .state ≡ startOf t mode
   fresh e = ap (λ (r : Started). r .state) told ∙ start-is-fresh t mode (number-is e)
 
   pub run-begins : a .number ≡ 0 → Accepted t (a .state)

@@ -11,11 +11,11 @@ use lib.ListN.{length, take, drop}
 use lib.Seq.{length-take-le}
 use borrow.Author.Tests.{leb-true, ltb-false}
 use Rattle.laws.specs.Listed.{written}
-use Rattle.laws.specs.Sums.{sum, count}
 use Rattle.laws.specs.Checks.{Check, placeOf, checked, AllHold}
 use Rattle.laws.proofs.Tests.{bit-small, cond-all, cond-cases}
 use Rattle.laws.proofs.Listed.{listed-under}
-use Rattle.laws.proofs.Checks.{all-hold, place-holds}
+use Rattle.laws.proofs.Sums.{count-upto}
+use Rattle.laws.proofs.Checks.{hold-append, all-hold, place-holds}
 use Rattle.calculus.specs.Process.{Prefix, act, out, join}
 use Rattle.calculus.specs.Places.{Turn, takes, drops}
 use Rattle.conditions.proofs.Numbers.{links-inside}
@@ -30,8 +30,7 @@ use Rattle.sheet.proofs.Accepted.{meets, well-formed, narrow-joins}
 use Rattle.sheet.proofs.Beyond.{meets-accepted}
 use Rattle.codec.specs.Answers.{Bytes}
 use Rattle.state.specs.declared.State.{State}
-use Rattle.state.specs.State.{freshOf}
-use Rattle.moves.specs.Steps.{marksOf, nodes, turnAt, kindOf, kindBy, kindTurned, kindAt, hasStep, steppedOf, listedOf}
+use Rattle.moves.specs.Steps.{marksOf, nodes, turnAt, kindOf, kindBy, kindTurned, kindAt, hasStep, steppedOf, listedOf, startOf}
 use Rattle.moves.specs.Standing.{waitingOf, awaitedOf, awaitsOf}
 use Rattle.moves.specs.Fits.{modeCheck}
 use Rattle.moves.specs.Runs.{Run, done, taken}
@@ -145,22 +144,13 @@ steps-short t b s (r ∷ rows) g = at (hasStep t s r) refl (λ e. steps-short t 
     at true e more = let (R, h) = more e in (runs.take r e R, within _ _ (omega arith) (joined 18 (length (taken R) * 18 + ending) (taken-short t (formed g) b s r e) h))
     at false e more = (done, within 50 ending (omega arith) (joined 50 0 (untaken-short t s r e) (record { is = omega arith })))
 
-pub count-few : (p : ℕ → Bool) (n : ℕ) → count p n ≤ n
-unfolding count sum
-count-few p zero = omega arith
-count-few p (suc n) = at (p n) (count-few p n)
-  where
-    at : (b : Bool) → count p n ≤ n → count p n + cond b 1 0 ≤ suc n
-    at true h = omega (arith, h)
-    at false h = omega (arith, h)
-
 run-short : (t : Table) → Bytes (t .terms) → (mode : ℕ) (rows : List ℕ) → refusalOf t .number ≡ 0 → mode ≤ 1 → Short (runLines t mode rows) longest
 unfolding runLines waitingSteps
 run-short t b mode rows e m =
     let g = fresh-state t e mode m in
-    let (R, h) = steps-short t b (freshOf mode) rows g in
+    let (R, h) = steps-short t b (startOf t mode) rows g in
     let l = run-length t (formed g) (g .sized) R in
-    let c = count-few (λ r. waitingStep (nodes t r) (marksOf (freshOf mode) r)) (t .n) in
+    let c = count-upto (λ r. waitingStep (nodes t r) (marksOf (startOf t mode) r)) (t .n) in
     joined 25 (256 * 18 + ending) (verdict-short t e) (within (length (taken R) * 18 + ending) (256 * 18 + ending) (omega (arith, l, c, formed g .few-terms)) h)
 
 -- a property of the refusals, and of what is answered where no check fails
@@ -170,18 +160,13 @@ checked-all P answer good [] bad h = h tt
 checked-all P answer good (c ∷ cs) bad h =
     cond-cases P (ltb (placeOf c) (c .upto)) (λ e. bad (c .number) (placeOf c)) (λ e. checked-all P answer good cs bad (λ a. h (place-holds c (placeOf c) refl (ltb-false (placeOf c) (c .upto) e), a)))
 
-pub split : (cs ds : List Check) → AllHold (cs ++ ds) → AllHold cs × AllHold ds
-unfolding AllHold
-split [] ds h = (tt, h)
-split (c ∷ cs) ds h = let (a, b) = split cs ds (h .1) in ((h .0, a), b)
-
 sheet-short : (mode : ℕ) (s rows : List ℕ) → Bytes s → Short (sheetLines mode s rows) longest
 unfolding sheetLines AllHold refusalOf termsOf
 sheet-short mode s rows b =
     checked-all (λ (xs : List ℕ). Short xs longest) refusedLine (runLines (tableIn s) mode rows) (sheetChecks s ++ (modeCheck mode ∷ []))
     (λ n p. within 50 longest (omega arith) (refused-short n p))
     (λ h.
-    let (a, d) = split (sheetChecks s) (modeCheck mode ∷ []) h in
+    let (a, d) = hold-append (sheetChecks s) (modeCheck mode ∷ []) .0 h in
     run-short (tableIn s) (bytes-take (numberAt s 9) (drop termsAt s) (bytes-drop termsAt s b)) mode rows (ap (λ (r : Refusal). r .number) (all-hold refuse (refuse 0 0) (tableChecks (tableIn s)) (a .1 .1))) (leb-true mode 1 (d .0 mode (omega arith) (omega arith))))
 
 pub printed-short : (input : List ℕ) → Bytes input → length (printed input) ≤ longest

@@ -8,8 +8,7 @@ use Rattle.laws.specs.Checks.{Check, checked}
 use Rattle.sheet.specs.Table.{Table}
 use Rattle.sheet.specs.Sheet.{numberAt, tableIn, sheetChecks}
 use Rattle.state.specs.declared.State.{State}
-use Rattle.state.specs.State.{freshOf}
-use Rattle.moves.specs.Steps.{kindAt, hasStep, steppedOf, listedOf}
+use Rattle.moves.specs.Steps.{kindAt, hasStep, steppedOf, listedOf, startOf}
 use Rattle.moves.specs.Standing.{waitingOf, awaitsOf}
 use Rattle.moves.specs.Fits.{modeCheck}
 use Rattle.sheet_engine.specs.Answers.{verdictAnswer, standingOf}
@@ -43,7 +42,7 @@ stepLines t s (r ∷ rs) = stepLine r (kindAt t s r) ++ cond (hasStep t s r) (st
 
 -- "Output lines: "verdict pass", or "verdict fail" with row, number, link; for each step [...]"
 unfoldable pub runLines : Table → ℕ → List ℕ → List ℕ
-runLines t mode rows = verdictLine (verdictAnswer t) ++ stepLines t (freshOf mode) rows
+runLines t mode rows = verdictLine (verdictAnswer t) ++ stepLines t (startOf t mode) rows
 
 -- "Sheet and mode are judged before the first line is printed."
 unfoldable pub sheetLines : ℕ → List ℕ → List ℕ → List ℕ

@@ -24,10 +24,10 @@ use Rattle.sheet.specs.Rules.{sized, settled, conditionRule, conditionOk, child
 use Rattle.sheet.specs.Sheet.{numberAt, front, sheetOf, headOf, termsOf, conditionsOf, entryOk, inFours, contentsOk}
 use Rattle.codec.specs.Answers.{readOf, partOf}
 use Rattle.evaluate.specs.Values.{linksIn}
-use Rattle.moves.specs.Steps.{modeOf, turnBy, turnAt, kindOf, kindBy, kindTurned, kindAt, hasStep, listedOf, falsifyFrom, falsified, isWaitingPick, decidedOf, climbBy, climbed, ownLink, ownOf, takenOf, droppedOf, steppedBy, steppedOf}
+use Rattle.moves.specs.Steps.{modeOf, turnBy, turnAt, kindOf, kindBy, kindTurned, kindAt, hasStep, listedOf, falsifyFrom, falsified, isWaitingPick, decidedOf, climbBy, climbed, ownLink, ownOf, takenOf, droppedOf, actsOf, unsetOf, steppedBy, steppedOf}
 use Rattle.worth.specs.Worth.{awaitedAt, worthOf}
 use Rattle.moves.specs.Standing.{joinInFront, joinsOf, waitingBy, waitingOf, awaitedOf, awaitsOf}
-use Rattle.moves.specs.Fits.{suitsPrefix, suitsBranch, suits, markOk, linkOk, held, waitOk, keepsBy, keeps, live, clearPrefix, clearRow, clearOk}
+use Rattle.moves.specs.Fits.{suitsPrefix, suitsBranch, suits, markOk, linkOk, held, waitOk, keepsBy, keeps, live, clearPrefix, clearRow, clearOk, countsOk}
 use Rattle.engine.specs.ByValue.{takenAnswer}
 use Rattle.failure.specs.Failure.{failsAt, numberAt as failureAt, linkAt}
 use Rattle.verdict.specs.Verdict.{sound, failing, failAt, verdictOf}
@@ -41,7 +41,7 @@ at-each f g [] e x m = absurd (List·Memᴰ·not-nil m)
 at-each f g (y ∷ l) e x m = ⊎-elim (λ q. ap f q ∙ ((let h : f y ≡ g y = cc in h) ∙ ap g (sym q))) (at-each f g l (cc) x) (List·Memᴰ·cases-cons m)
 
 computed : map (λ c. answerTo (tableRead (c .sheet)) (c .question)) cases ≡ map (λ c. c .answer) cases
-unfolding or seen down-by down below up-by up lowest sum count placeOf checked listed written own sets falsifies cleans joinTurn turnOf table conditionBy condition reachedFrom lazy allSet strict value digit undigit linksOf assign flips offender quiet number fails termBy term firstOf secondOf isSource stand open-branches remainder names parentOf rightOf waitsBy undecided waiting waitingStep passedBy opens leads inheritedBy inherited reached inFront rowBy rowAt operatorOf conditionRowBy conditionRowAt lazyOf evaluationOf sized settled conditionRule conditionOk childOk termRule termOk same namings timesNamed sources joinOk wants unsourced fewLinks numberAt front sheetOf headOf termsOf conditionsOf entryOk inFours contentsOk readOf partOf linksIn modeOf turnBy turnAt kindOf kindBy kindTurned kindAt hasStep listedOf falsifyFrom falsified isWaitingPick decidedOf climbBy climbed ownLink ownOf takenOf droppedOf steppedBy steppedOf suitsPrefix suitsBranch suits markOk linkOk held waitOk keepsBy keeps live clearPrefix clearRow clearOk takenAnswer failsAt failureAt linkAt isJoinPrefix isJoin conditionOfPrefix conditionOf sound failing failAt verdictOf given verdictAnswer startAnswer joinInFront joinsOf waitingBy waitingOf lacks awaited awaitedAt worthOf awaitedOf awaitsOf standingBy standingOf listAnswer listBuffer standingAnswer standingBuffer waitsAnswer waitsBuffer kindAnswer stepAnswer listedIn waitingIn awaitedIn tableRead answerTo
+unfolding or seen down-by down below up-by up lowest sum count placeOf checked listed written own sets falsifies cleans joinTurn turnOf table conditionBy condition reachedFrom lazy allSet strict value digit undigit linksOf assign flips offender quiet number fails termBy term firstOf secondOf isSource stand open-branches remainder names parentOf rightOf waitsBy undecided waiting waitingStep passedBy opens leads inheritedBy inherited reached inFront rowBy rowAt operatorOf conditionRowBy conditionRowAt lazyOf evaluationOf sized settled conditionRule conditionOk childOk termRule termOk same namings timesNamed sources joinOk wants unsourced fewLinks numberAt front sheetOf headOf termsOf conditionsOf entryOk inFours contentsOk readOf partOf linksIn modeOf turnBy turnAt kindOf kindBy kindTurned kindAt hasStep listedOf falsifyFrom falsified isWaitingPick decidedOf climbBy climbed ownLink ownOf takenOf droppedOf actsOf unsetOf steppedBy steppedOf suitsPrefix suitsBranch suits markOk linkOk held waitOk keepsBy keeps live clearPrefix clearRow clearOk countsOk takenAnswer failsAt failureAt linkAt isJoinPrefix isJoin conditionOfPrefix conditionOf sound failing failAt verdictOf given verdictAnswer startAnswer joinInFront joinsOf waitingBy waitingOf lacks awaited awaitedAt worthOf awaitedOf awaitsOf standingBy standingOf listAnswer listBuffer standingAnswer standingBuffer waitsAnswer waitsBuffer kindAnswer stepAnswer listedIn waitingIn awaitedIn tableRead answerTo
 computed = refl
 
 pub every-case : (c : Case) → List·Memᴰ c cases → answerTo (tableRead (c .sheet)) (c .question) ≡ c .answer

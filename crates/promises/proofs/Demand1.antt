@@ -25,6 +25,8 @@ use Rattle.sheet_engine.proofs.start as start
 use Rattle.sheet_engine.proofs.list_steps as list-steps
 use Rattle.sheet_engine.proofs.standing as standing
 use Rattle.sheet_engine.proofs.waits_for as waits-for
+use Rattle.sheet_engine.proofs.acts_left as acts-left
+use Rattle.sheet_engine.proofs.links_unset as links-unset
 use Rattle.sheet_engine.proofs.step_kind as step-kind
 use Rattle.sheet_engine.proofs.take_step as take-step
 use Rattle.sheet_engine.proofs.step_in_place as step-in-place
@@ -41,22 +43,21 @@ use Rattle.codec.specs.Answers.{readOf, partOf, writeChecks, writeOf, writtenOf
 use Rattle.state.specs.declared.State.{State}
 use Rattle.state.specs.declared.StepKind.{StepKind}
 use Rattle.state.specs.declared.StepKind.the-variants as kind
-use Rattle.state.specs.State.{freshOf}
-use Rattle.moves.specs.Steps.{kindAt, listedOf, steppedOf}
+use Rattle.moves.specs.Steps.{kindAt, listedOf, startOf, steppedOf}
 use Rattle.moves.specs.Standing.{waitingOf, awaitsOf}
 use Rattle.engine.specs.declared.Stepped.{Stepped}
 use Rattle.verdict.specs.Verdict.{verdictOf}
 use Rattle.sheet_engine.specs.declared.VerdictAnswer.the-variants as verdict
 use Rattle.sheet_engine.specs.declared.StandingAnswer.{StandingAnswer}
 use Rattle.sheet_engine.specs.declared.StandingAnswer.the-variants as stands
-use Rattle.sheet_engine.specs.Answers.{given, verdictAnswer, startChecks, started, notStarted, startAnswer, listChecks, listAnswer, listBuffer, standingOf, standingChecks, standingAnswer, standingBuffer, waitsAnswer, waitsBuffer, kindAnswer, notTaken, stepAnswer}
+use Rattle.sheet_engine.specs.Answers.{given, verdictAnswer, startChecks, started, notStarted, startAnswer, actsLeft, linksUnset, listChecks, listAnswer, listBuffer, standingOf, standingChecks, standingAnswer, standingBuffer, waitsAnswer, waitsBuffer, kindAnswer, notTaken, stepAnswer}
 use Rattle.sheet_engine.specs.Values.{rowChecks, wasTaken}
 use Rattle.promises.specs.Contracts.{AsksNothing}
 use Rattle.promises.specs.Refused.{Answered, readChecks}
 use Rattle.promises.proofs.Refused.{answered, both-answered, map-answered, sheet-answered, kind-answered, step-answered}
 -- ... each answer once more by document 01's number and values, where a refusal has 0 in all other places; and that no second answer fits the contract of a call
 pub use Rattle.sheet_engine.proofs.Values.{read-answers, write-answers, verdict-answers, list-answers, standing-answers, waits-answers, kind-answers, step-answers}
-pub use Rattle.sheet_engine.proofs.Unique.{read-sheet-one, settings-part-one, terms-part-one, conditions-part-one, judge-table-one, write-sheet-one, give-verdict-one, start-one, list-steps-one, standing-one, waits-for-one, step-kind-one, take-step-one, step-in-place-one}
+pub use Rattle.sheet_engine.proofs.Unique.{read-sheet-one, settings-part-one, terms-part-one, conditions-part-one, judge-table-one, write-sheet-one, give-verdict-one, start-one, acts-left-one, links-unset-one, list-steps-one, standing-one, waits-for-one, step-kind-one, take-step-one, step-in-place-one}
 
 -- "Every public call ends": each meets its contract, and a contract is met only by code that ends.
 pub every-call-ends : {M : Type 1} → read-sheet.Statement.statement M
@@ -67,6 +68,8 @@ pub every-call-ends : {M : Type 1} → read-sheet.Statement.statement M
     × write-sheet.Statement.statement M
     × give-verdict.Statement.statement M
     × start.Statement.statement M
+    × acts-left.Statement.statement M
+    × links-unset.Statement.statement M
     × list-steps.Statement.statement M
     × standing.Statement.statement M
     × waits-for.Statement.statement M
@@ -82,6 +85,8 @@ every-call-ends = (
   write-sheet.Met.met,
   give-verdict.Met.met,
   start.Met.met,
+  acts-left.Met.met,
+  links-unset.Met.met,
   list-steps.Met.met,
   standing.Met.met,
   waits-for.Met.met,
@@ -100,6 +105,8 @@ module _ {M : Type 1} (𝓤 : URA M) (H : Heap 𝓤) (A : Atoms 𝓤) (at-mem : 
       × AsksNothing 𝓤 write-sheet.ended (write-sheet.clauses 𝓤 H A at-mem run)
       × AsksNothing 𝓤 give-verdict.ended (give-verdict.clauses 𝓤 H A at-mem run)
       × AsksNothing 𝓤 start.ended (start.clauses 𝓤 H A at-mem run)
+      × AsksNothing 𝓤 acts-left.ended (acts-left.clauses 𝓤 H A at-mem run)
+      × AsksNothing 𝓤 links-unset.ended (links-unset.clauses 𝓤 H A at-mem run)
       × AsksNothing 𝓤 list-steps.ended (list-steps.clauses 𝓤 H A at-mem run)
       × AsksNothing 𝓤 standing.ended (standing.clauses 𝓤 H A at-mem run)
       × AsksNothing 𝓤 waits-for.ended (waits-for.clauses 𝓤 H A at-mem run)
@@ -107,6 +114,8 @@ module _ {M : Type 1} (𝓤 : URA M) (H : Heap 𝓤) (A : Atoms 𝓤) (at-mem : 
       × AsksNothing 𝓤 take-step.ended (take-step.clauses 𝓤 H A at-mem run)
       × AsksNothing 𝓤 step-in-place.ended (step-in-place.clauses 𝓤 H A at-mem run)
   every-call-takes-any = (
+    λ κs a g P. top 𝓤 P,
+    λ κs a g P. top 𝓤 P,
     λ κs a g P. top 𝓤 P,
     λ κs a g P. top 𝓤 P,
     λ κs a g P. top 𝓤 P,
@@ -150,9 +159,17 @@ unfolding verdictAnswer
 give-verdict-answers t = answered verdict.Refused (given (verdictOf t)) (tableChecks t)
 
 -- `start`: a fresh state; beside a refusal a state of zeros
-pub start-answers : (t : Table) (mode : ℕ) → Answered notStarted (started 0 0 (freshOf mode)) (startChecks t mode) (startAnswer t mode)
+pub start-answers : (t : Table) (mode : ℕ) → Answered notStarted (started 0 0 (startOf t mode)) (startChecks t mode) (startAnswer t mode)
 unfolding startAnswer
-start-answers t mode = answered notStarted (started 0 0 (freshOf mode)) (startChecks t mode)
+start-answers t mode = answered notStarted (started 0 0 (startOf t mode)) (startChecks t mode)
+
+-- `acts_left` and `links_unset`: the number that the state holds. "No check concerns them": nothing is refused. By their own contracts, at every model.
+module _ {M : Type 1} (𝓤 : URA M) (H : Heap 𝓤) (A : Atoms 𝓤) (at-mem : Memory → SProp 𝓤) (run : Routine → Fun 𝓤) (κs : Lfts 0) where
+  pub acts-left-answers : (a : Args acts-left.signature κs) (z : AtExit acts-left.ended κs) (r : Res acts-left.signature κs) → ent 𝓤 (acts-left.clauses 𝓤 H A at-mem run κs a .ensures tt r z) (fact 𝓤 (r ≡ actsLeft (a .0)))
+  acts-left-answers a z r = fact-mono 𝓤 _ _ (λ told. told)
+
+  pub links-unset-answers : (a : Args links-unset.signature κs) (z : AtExit links-unset.ended κs) (r : Res links-unset.signature κs) → ent 𝓤 (links-unset.clauses 𝓤 H A at-mem run κs a .ensures tt r z) (fact 𝓤 (r ≡ linksUnset (a .0)))
+  links-unset-answers a z r = fact-mono 𝓤 _ _ (λ told. told)
 
 -- `list_steps`: their number, and their rows at the buffer's front; a refusal leaves the buffer as it was
 pub list-steps-answers : (t : Table) (s : State) (out : List ℕ) → Answered {A = SizeAnswer × List ℕ} (λ number place. (size.Refused number place, out)) (size.Size (length (listedOf t s)), written (listedOf t s) out) (listChecks t s (length out)) (listAnswer t s (length out), listBuffer t s out)
@@ -202,7 +219,7 @@ pub in-order :
     × ((t : Table) → numbers (tableChecks t) ≡ 1 ∷ 3 ∷ 4 ∷ 5 ∷ 6 ∷ 7 ∷ 13 ∷ 8 ∷ [])
     × ((h : Head) (ts cs : List ℕ) (lent : ℕ) → numbers (writeChecks h ts cs lent) ≡ 1 ∷ 3 ∷ 4 ∷ 5 ∷ 6 ∷ 7 ∷ 13 ∷ 8 ∷ 12 ∷ [])
     × ((t : Table) (mode : ℕ) → numbers (startChecks t mode) ≡ 1 ∷ 3 ∷ 4 ∷ 5 ∷ 6 ∷ 7 ∷ 13 ∷ 8 ∷ 9 ∷ [])
-    × ((t : Table) (s : State) (lent : ℕ) → numbers (listChecks t s lent) ≡ 1 ∷ 3 ∷ 4 ∷ 5 ∷ 6 ∷ 7 ∷ 13 ∷ 8 ∷ 9 ∷ 10 ∷ 10 ∷ 10 ∷ 10 ∷ 12 ∷ [])
-    × ((t : Table) (s : State) (lent : ℕ) → numbers (standingChecks t s lent) ≡ 1 ∷ 3 ∷ 4 ∷ 5 ∷ 6 ∷ 7 ∷ 13 ∷ 8 ∷ 9 ∷ 10 ∷ 10 ∷ 10 ∷ 10 ∷ 12 ∷ [])
-    × ((t : Table) (s : State) (row : ℕ) → numbers (rowChecks t s row) ≡ 1 ∷ 3 ∷ 4 ∷ 5 ∷ 6 ∷ 7 ∷ 13 ∷ 8 ∷ 9 ∷ 10 ∷ 10 ∷ 10 ∷ 10 ∷ 11 ∷ [])
+    × ((t : Table) (s : State) (lent : ℕ) → numbers (listChecks t s lent) ≡ 1 ∷ 3 ∷ 4 ∷ 5 ∷ 6 ∷ 7 ∷ 13 ∷ 8 ∷ 9 ∷ 10 ∷ 10 ∷ 10 ∷ 10 ∷ 10 ∷ 12 ∷ [])
+    × ((t : Table) (s : State) (lent : ℕ) → numbers (standingChecks t s lent) ≡ 1 ∷ 3 ∷ 4 ∷ 5 ∷ 6 ∷ 7 ∷ 13 ∷ 8 ∷ 9 ∷ 10 ∷ 10 ∷ 10 ∷ 10 ∷ 10 ∷ 12 ∷ [])
+    × ((t : Table) (s : State) (row : ℕ) → numbers (rowChecks t s row) ≡ 1 ∷ 3 ∷ 4 ∷ 5 ∷ 6 ∷ 7 ∷ 13 ∷ 8 ∷ 9 ∷ 10 ∷ 10 ∷ 10 ∷ 10 ∷ 10 ∷ 11 ∷ [])
 in-order = (λ s. refl, λ t. refl, λ h ts cs lent. refl, λ t mode. refl, λ t s lent. refl, λ t s lent. refl, λ t s row. refl)

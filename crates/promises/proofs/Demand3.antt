@@ -5,7 +5,7 @@ use mathlib.Core.Logic.{_⊎_}
 use native.Mathlib.Omega.{arith}
 use Rattle.sheet.specs.Table.{Table}
 use Rattle.state.specs.declared.State.{State}
-use Rattle.state.specs.State.{freshOf}
+use Rattle.moves.specs.Steps.{startOf}
 use Rattle.moves.specs.Runs.{struck, rowsOf}
 use Rattle.moves.proofs.Runs.{plain-run}
 use Rattle.sheet_engine.specs.declared.VerdictAnswer.the-variants.{Pass}
@@ -22,7 +22,7 @@ module _ (t : Table) (verdict : Passes t) where
   pass : verdictAnswer t ≡ Pass
   pass = pass-told t .0 verdict
 
-  pub both-start : (mode : ℕ) → mode ≤ 1 → startAnswer t mode ≡ started 0 0 (freshOf mode)
+  pub both-start : (mode : ℕ) → mode ≤ 1 → startAnswer t mode ≡ started 0 0 (startOf t mode)
   both-start = is-started t (passed t pass)
 
   -- "Every run without cleaning is, row for row, also a run with it": kinds included; the two are such a pair

@@ -6,7 +6,7 @@ use native.Mathlib.Omega.{arith}
 use Rattle.sheet.specs.Table.{Table}
 use Rattle.sheet.specs.Rules.{refusalOf}
 use Rattle.state.specs.declared.State.{State}
-use Rattle.state.specs.State.{freshOf}
+use Rattle.moves.specs.Steps.{startOf}
 use Rattle.moves.specs.Runs.{Taken, struck, rowsOf, Alike}
 use Rattle.moves.specs.Runs.{Run as Steps, taken as stepsTaken, last as lastState}
 use Rattle.moves.proofs.Fits.{fresh-sized, fresh-fits}
@@ -20,23 +20,23 @@ use Rattle.promises.proofs.Calls.{to-steps, from-steps, run-keeps}
 
 -- an accepted table is started in either mode
 module _ (t : Table) (accepted : refusalOf t .number ≡ 0) (mode : ℕ) (h : mode ≤ 1) where
-  pub is-started : startAnswer t mode ≡ started 0 0 (freshOf mode)
-  is-started = sym (start-fresh t (refusalOf t) refl mode (freshOf mode) accepted h refl)
+  pub is-started : startAnswer t mode ≡ started 0 0 (startOf t mode)
+  is-started = sym (start-fresh t (refusalOf t) refl mode (startOf t mode) accepted h refl)
 
-  is-fresh : freshIn t mode ≡ freshOf mode
+  pub is-fresh : freshIn t mode ≡ startOf t mode
   is-fresh = ap (λ (r : Started). r .state) is-started
 
-  pub fresh-state : Accepted t (freshOf mode)
-  fresh-state = record { table = accepted; mode = h; fits = fresh-fits t mode; sized = fresh-sized mode }
+  pub fresh-state : Accepted t (startOf t mode)
+  fresh-state = record { table = accepted; mode = h; fits = fresh-fits t mode; sized = fresh-sized t mode }
 
   pub fresh-accepted : Accepted t (freshIn t mode)
   fresh-accepted = subst (Accepted t) (sym is-fresh) fresh-state
 
   -- a run from there is one of `moves`, and the other way
-  pub begun : (G : Run t (freshIn t mode)) → (R : Steps t (freshOf mode)) × (stepsTaken R ≡ taken G) × (lastState R ≡ last G)
+  pub begun : (G : Run t (freshIn t mode)) → (R : Steps t (startOf t mode)) × (stepsTaken R ≡ taken G) × (lastState R ≡ last G)
   begun G = subst (λ (z : State). (R : Steps t z) × (stepsTaken R ≡ taken G) × (lastState R ≡ last G)) is-fresh (to-steps fresh-accepted G)
 
-  pub run-of : (R : Steps t (freshOf mode)) → (G : Run t (freshIn t mode)) × (taken G ≡ stepsTaken R) × (last G ≡ lastState R)
+  pub run-of : (R : Steps t (startOf t mode)) → (G : Run t (freshIn t mode)) × (taken G ≡ stepsTaken R) × (last G ≡ lastState R)
   run-of R = subst (λ (z : State). (G : Run t z) × (taken G ≡ stepsTaken R) × (last G ≡ lastState R)) (sym is-fresh) (from-steps fresh-state R)
 
 module _ (t : Table) (pass : verdictAnswer t ≡ Pass) where

@@ -4,6 +4,7 @@ pub mod Demand3
 pub mod Standing
 pub mod Sources
 pub mod Waits
+pub mod Counts
 pub mod Cases
 -- what they rest on
 pub mod Refused

@@ -19,7 +19,7 @@ use Rattle.sheet.proofs.Accepted.{meets, sourced-joins, all-sourced, row-unsour
 use Rattle.sheet.proofs.Refusals.{without}
 use Rattle.codec.specs.Answers.{readOf, writeOf}
 use Rattle.state.specs.declared.State.{State}
-use Rattle.state.specs.State.{freshOf}
+use Rattle.moves.specs.Steps.{startOf}
 use Rattle.sheet_engine.specs.declared.Started.{Started}
 use Rattle.sheet_engine.specs.Answers.{verdictAnswer, startChecks, started, notStarted, startAnswer, listAnswer, standingAnswer, waitsAnswer, kindAnswer, stepAnswer}
 use Rattle.sheet_engine.specs.Values.{VerdictValues, verdictValues, SheetValues, sheetValues, SizeValues, sizeValues, StandingValues, standingValues, StepValues, stepValues, Answers}
@@ -94,7 +94,7 @@ module _ (t : Table) (place : ℕ) where
   pub start-13 : (mode : ℕ) → ((startAnswer t mode .number ≡ 13) × (startAnswer t mode .place ≡ place)) ↔ Thirteen t place
   unfolding startAnswer without
   start-13 mode =
-      let e : refuse (startAnswer t mode .number) (startAnswer t mode .place) ≡ checked refuse (refuse 0 0) (startChecks t mode) = checked-map (λ (r : Started). refuse (r .number) (r .place)) notStarted (started 0 0 (freshOf mode)) (startChecks t mode) in
+      let e : refuse (startAnswer t mode .number) (startAnswer t mode .place) ≡ checked refuse (refuse 0 0) (startChecks t mode) = checked-map (λ (r : Started). refuse (r .number) (r .place)) notStarted (started 0 0 (startOf t mode)) (startChecks t mode) in
       Iff·trans ((λ (n, p). sym e ∙ ap₂ refuse n p), λ z. (ap (λ (r : Refusal). r .number) (e ∙ z), ap (λ (r : Refusal). r .place) (e ∙ z))) (of-table _ refl)
 
   module _ (s : State) where

@@ -1,4 +1,4 @@
--- Document 01, "Examples on each side": the cases marked P, and how sheet X stands after document 02, as one table. A row is a sheet in bytes, what is asked of it, and what the calls answer.
+-- Document 01, "Examples on each side": the cases marked P, and how sheet X stands and what is left of it after document 02, as one table. A row is a sheet in bytes, what is asked of it, and what the calls answer.
 use Prim.Native.Nat.{ℕ, _-_}
 use mathlib.Core.List.{List, [], _∷_, _++_}
 use lib.ListN.{take}
@@ -17,20 +17,22 @@ use Rattle.sheet_engine.specs.declared.VerdictAnswer.{VerdictAnswer}
 use Rattle.sheet_engine.specs.declared.VerdictAnswer.the-variants.{Pass, Fail}
 use Rattle.sheet_engine.specs.declared.StandingAnswer.{StandingAnswer}
 use Rattle.sheet_engine.specs.declared.StandingAnswer.the-variants.{Enabled, Finished, Waiting}
-use Rattle.sheet_engine.specs.Answers.{verdictAnswer, listAnswer, standingAnswer, stepAnswer}
+use Rattle.sheet_engine.specs.Answers.{verdictAnswer, actsLeft, linksUnset, listAnswer, standingAnswer, stepAnswer}
 use Rattle.promises.specs.Calls.{freshIn, listedSteps, waitingRows, awaitedBytes}
 
--- what is asked: the verdict; or what a caller sees who starts the sheet in a mode and takes the steps of some rows; or how the sheet stands then
+-- what is asked: the verdict; or what a caller sees who starts the sheet in a mode and takes the steps of some rows; or how the sheet stands then; or what is left
 pub data Question : Type 0 where
   verdict : Question
   after : (mode : ℕ) (rows : List ℕ) → Question
   standing : (mode : ℕ) (rows : List ℕ) → Question
+  counts : (mode : ℕ) (rows : List ℕ) → Question
 
--- the answers of `take_step` on the way and of `list_steps`, the listed steps with their kinds, and the links of the sheet; or the answer of `standing`, with the rows waited for and, from `waits_for`, what each waits for
+-- the answers of `take_step` on the way and of `list_steps`, the listed steps with their kinds, and the links of the sheet; or the answer of `standing`, with the rows waited for and, from `waits_for`, what each waits for; or the answers of `acts_left` and `links_unset`
 pub data Answer : Type 0 where
   Verdict : VerdictAnswer → Answer
   Seen : (took : List StepKind) (answer : SizeAnswer) (steps : List Taken) (links : List ℕ) → Answer
   Stands : (answer : StandingAnswer) (rows links : List ℕ) → Answer
+  Left : (acts unset : ℕ) → Answer
 
 pub record Case : Type 0 where
   pub sheet : List ℕ
@@ -60,10 +62,14 @@ seenIn t s took = Seen took (listAnswer t s 256) (listedSteps t s) (take (t .m) 
 abbrev pub standsIn : Table → State → Answer
 standsIn t s = Stands (standingAnswer t s 256) (waitingRows t s) (awaitedBytes t s)
 
+abbrev pub leftOf : State → Answer
+leftOf s = Left (actsLeft s) (linksUnset s)
+
 unfoldable pub answerTo : Table → Question → Answer
 answerTo t verdict = Verdict (verdictAnswer t)
 answerTo t (after mode rows) = seenIn t (stateAfter t (freshIn t mode) rows) (tookAll t (freshIn t mode) rows)
 answerTo t (standing mode rows) = standsIn t (stateAfter t (freshIn t mode) rows)
+answerTo t (counts mode rows) = leftOf (stateAfter t (freshIn t mode) rows)
 
 -- sheet X
 abbrev pub X : List ℕ
@@ -119,6 +125,14 @@ cases =
     of X (standing 1 (2 ∷ 6 ∷ 7 ∷ [])) (Stands Finished [] []) ∷
     -- "cleaning may finish where plain waits": 4, and then the cleaning step 6
     of X (standing 1 (4 ∷ 6 ∷ [])) (Stands Finished [] []) ∷
+    -- request 6: the ACTs 10 and 12 are left, and link 0 is unset; the PICK takes a branch, with cleaning the link of the other becomes false, and the clean step takes ACT 12
+    of X (counts 0 []) (Left 2 1) ∷
+    of X (counts 1 []) (Left 2 1) ∷
+    of X (counts 0 (2 ∷ [])) (Left 1 1) ∷
+    of X (counts 1 (2 ∷ [])) (Left 1 0) ∷
+    of X (counts 0 (4 ∷ [])) (Left 1 0) ∷
+    of X (counts 1 (4 ∷ 6 ∷ [])) (Left 0 0) ∷
+    of X (counts 1 (2 ∷ 6 ∷ 7 ∷ [])) (Left 0 0) ∷
     -- "lazy OR of links 0 and 1 passes", "strict, it fails with number 5, link 1"
     of (joinOn 1 3 (LINK 0 ++ LINK 1 ++ OR 0 1)) verdict (Verdict Pass) ∷
     of (joinOn 0 3 (LINK 0 ++ LINK 1 ++ OR 0 1)) verdict (Verdict (Fail 2 5 1)) ∷

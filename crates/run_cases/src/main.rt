@@ -4,13 +4,14 @@ use libc::STDOUT_FILENO;
 // More than any text of a case of the program.
 const TEXT: usize = 65792;
 
-// What answers an input: the program; the calls on a state; the calls on a table; the call that tells how a state stands, alone or with the one that tells what it waits for.
+// What answers an input: the program; the calls on a state; the calls on a table; the call that tells how a state stands, alone or with the one that tells what it waits for; the counts of a state.
 enum Kind {
     Program,
     States,
     Tables,
     Standing,
     Waiting,
+    Counts,
 }
 
 fn prints(input: &[u8], expected: &[u8]) -> bool {
@@ -41,6 +42,7 @@ fn next_case(file: i32, kind: Kind) -> u8 {
         Kind::Tables => table_cases::agrees(file) as u8,
         Kind::Standing => standing_cases::agrees(file, false) as u8,
         Kind::Waiting => standing_cases::agrees(file, true) as u8,
+        Kind::Counts => counts_cases::agrees(file) as u8,
     }
 }
 
@@ -86,4 +88,6 @@ fn main() {
     try_file(b"tables, request 3", b"tables-3.cases", Kind::Tables);
     try_file(b"standing, request 3", b"standing-3.cases", Kind::Standing);
     try_file(b"waiting, request 5", b"standing.cases", Kind::Waiting);
+    try_file(b"states, request 6", b"states-6.cases", Kind::States);
+    try_file(b"counts, request 6", b"counts.cases", Kind::Counts);
 }

@@ -22,15 +22,15 @@ use Rattle.codec.specs.declared.SizeAnswer.the-variants as size
 use Rattle.state.specs.declared.State.{State}
 use Rattle.state.specs.declared.StepKind.the-variants as kind
 use Rattle.state.specs.State.{freshOf}
-use Rattle.moves.specs.Steps.{kindAt}
+use Rattle.moves.specs.Steps.{kindAt, startOf}
 use Rattle.moves.specs.Fits.{modeCheck, fitChecks}
-use Rattle.moves.proofs.Beyond.{cut-fits, cut-kind, cut-listed, cut-joins, cut-waiting, cut-awaits, cut-stepped}
+use Rattle.moves.proofs.Beyond.{cut-counted, cut-fits, cut-kind, cut-listed, cut-joins, cut-waiting, cut-awaits, cut-stepped}
 use Rattle.engine.specs.ByValue.{takenAnswer}
 use Rattle.verdict.specs.Verdict.{verdictOf}
 use Rattle.verdict.proofs.Beyond.{cut-verdict}
 use Rattle.sheet_engine.specs.declared.StandingAnswer.the-variants as standing
 use Rattle.sheet_engine.specs.declared.VerdictAnswer.the-variants.{Refused}
-use Rattle.sheet_engine.specs.Answers.{given, verdictAnswer, started, notStarted, startAnswer, callChecks, listAnswer, listBuffer, standingBy, standingOf, standingAnswer, standingBuffer, waitsAnswer, waitsBuffer, kindAnswer, notTaken, stepAnswer}
+use Rattle.sheet_engine.specs.Answers.{given, verdictAnswer, started, notStarted, startChecks, startAnswer, callChecks, listAnswer, listBuffer, standingBy, standingOf, standingAnswer, standingBuffer, waitsAnswer, waitsBuffer, kindAnswer, notTaken, stepAnswer}
 
 formed : (t : Table) → AllHold (tableChecks t) → WellFormed t
 unfolding refusalOf
@@ -43,9 +43,10 @@ cut-verdict-answer t = checked-good Refused (given (verdictOf t)) (given (verdic
 pub cut-start-answer : (t : Table) (mode : ℕ) → startAnswer t mode ≡ startAnswer (cut t) mode
 unfolding startAnswer
 cut-start-answer t mode =
-    checked-append notStarted (started 0 0 (freshOf mode)) (tableChecks t) (modeCheck mode ∷ []) ∙
-    (cut-checked notStarted (checked notStarted (started 0 0 (freshOf mode)) (modeCheck mode ∷ [])) t ∙
-    sym (checked-append notStarted (started 0 0 (freshOf mode)) (tableChecks (cut t)) (modeCheck mode ∷ [])))
+    ap (λ (z : State). checked notStarted (started 0 0 z) (startChecks t mode)) (cut-counted t (freshOf mode)) ∙
+    (checked-append notStarted (started 0 0 (startOf (cut t) mode)) (tableChecks t) (modeCheck mode ∷ []) ∙
+    (cut-checked notStarted (checked notStarted (started 0 0 (startOf (cut t) mode)) (modeCheck mode ∷ [])) t ∙
+    sym (checked-append notStarted (started 0 0 (startOf (cut t) mode)) (tableChecks (cut t)) (modeCheck mode ∷ []))))
 
 -- writing
 module _ (h : Head) (ts cs : List ℕ) where

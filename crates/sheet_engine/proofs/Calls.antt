@@ -12,6 +12,7 @@ use Rattle.sheet.proofs.Accepted.{Meets, meets, well-formed, narrow-joins}
 use Rattle.sheet.proofs.Refusals.{table-refused, table-accepted, table-refused-first, table-accepted-first, one-place-fails, one-place-holds}
 use Rattle.state.specs.declared.State.{State}
 use Rattle.state.specs.State.{freshOf}
+use Rattle.moves.specs.Steps.{startOf}
 use Rattle.moves.specs.Fits.{modeCheck}
 use Rattle.verdict.specs.declared.Verdict.{Verdict}
 use Rattle.verdict.specs.declared.Verdict.the-variants as verdict
@@ -61,12 +62,12 @@ module _ (t : Table) (r : Refusal) (told : r ≡ refusalOf t) where
   module _ (mode : ℕ) (s : State) where
     pub start-refused : (r .number ≡ 0 → ⊥) → s ≡ freshOf 0 → started (r .number) (r .place) s ≡ startAnswer t mode
     unfolding startAnswer
-    start-refused h is = ap (started (r .number) (r .place)) is ∙ table-refused-first notStarted (started 0 0 (freshOf mode)) t (modeCheck mode ∷ []) r told h
+    start-refused h is = ap (started (r .number) (r .place)) is ∙ table-refused-first notStarted (started 0 0 (startOf t mode)) t (modeCheck mode ∷ []) r told h
 
     pub start-bad-mode : r .number ≡ 0 → 1 < mode → s ≡ freshOf 0 → started 9 mode s ≡ startAnswer t mode
     unfolding startAnswer
-    start-bad-mode e h is = ap (started 9 mode) is ∙ (one-place-fails notStarted (started 0 0 (freshOf mode)) (modeCheck mode) [] (omega arith) (lt-leb mode 1 h) ∙ table-accepted-first notStarted (started 0 0 (freshOf mode)) t (modeCheck mode ∷ []) r told e)
+    start-bad-mode e h is = ap (started 9 mode) is ∙ (one-place-fails notStarted (started 0 0 (startOf t mode)) (modeCheck mode) [] (omega arith) (lt-leb mode 1 h) ∙ table-accepted-first notStarted (started 0 0 (startOf t mode)) t (modeCheck mode ∷ []) r told e)
 
-    pub start-fresh : r .number ≡ 0 → mode ≤ 1 → s ≡ freshOf mode → started 0 0 s ≡ startAnswer t mode
+    pub start-fresh : r .number ≡ 0 → mode ≤ 1 → s ≡ startOf t mode → started 0 0 s ≡ startAnswer t mode
     unfolding startAnswer checked
-    start-fresh e h is = ap (started 0 0) is ∙ (one-place-holds notStarted (started 0 0 (freshOf mode)) (modeCheck mode) [] (omega arith) (le-leb mode 1 h) ∙ table-accepted-first notStarted (started 0 0 (freshOf mode)) t (modeCheck mode ∷ []) r told e)
+    start-fresh e h is = ap (started 0 0) is ∙ (one-place-holds notStarted (started 0 0 (startOf t mode)) (modeCheck mode) [] (omega arith) (le-leb mode 1 h) ∙ table-accepted-first notStarted (started 0 0 (startOf t mode)) t (modeCheck mode ∷ []) r told e)

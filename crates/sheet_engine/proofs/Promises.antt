@@ -21,6 +21,7 @@ use Rattle.sheet.specs.Rules.{tableChecks, refuse, refusalOf}
 use Rattle.sheet.proofs.Accepted.{meets, well-formed, single-source}
 use Rattle.failure.specs.Failure.{numberAt, linkAt}
 use Rattle.state.specs.State.{freshOf}
+use Rattle.moves.specs.Steps.{startOf}
 use Rattle.moves.specs.Fits.{Fits}
 use Rattle.moves.specs.Runs.{Demand3}
 use Rattle.moves.proofs.Fits.{fresh-fits}
@@ -145,12 +146,12 @@ module _ (t : Table) where
     pub start-answered : (startAnswer t mode .number ≡ 0) ↔ (Accepted × (mode ≤ 1))
     start-answered = (
       (λ s. (start-accepted s, start-in-mode s)),
-      (λ (e, h). sym (ap numberOf (start-fresh t (refusalOf t) refl mode (freshOf mode) e h refl))),
+      (λ (e, h). sym (ap numberOf (start-fresh t (refusalOf t) refl mode (startOf t mode) e h refl))),
     )
 
     -- ... and then the state is fresh, and fits
-    pub start-is-fresh : startAnswer t mode .number ≡ 0 → startAnswer t mode .state ≡ freshOf mode
-    start-is-fresh s = sym (ap (λ (r : Started). r .state) (start-fresh t (refusalOf t) refl mode (freshOf mode) (start-accepted s) (start-in-mode s) refl))
+    pub start-is-fresh : startAnswer t mode .number ≡ 0 → startAnswer t mode .state ≡ startOf t mode
+    start-is-fresh s = sym (ap (λ (r : Started). r .state) (start-fresh t (refusalOf t) refl mode (startOf t mode) (start-accepted s) (start-in-mode s) refl))
 
     pub start-fits : startAnswer t mode .number ≡ 0 → Fits t (startAnswer t mode .state)
     start-fits s = rw (start-is-fresh s) (fresh-fits t mode)

@@ -37,6 +37,12 @@ use Rattle.sheet_engine.proofs.give_verdict.Kinds as give-verdict-kinds
 use Rattle.sheet_engine.proofs.start as start
 use Rattle.sheet_engine.proofs.start.Reads as start-reads
 use Rattle.sheet_engine.proofs.start.Kinds as start-kinds
+use Rattle.sheet_engine.proofs.acts_left as acts-left
+use Rattle.sheet_engine.proofs.acts_left.Reads as acts-left-reads
+use Rattle.sheet_engine.proofs.acts_left.Kinds as acts-left-kinds
+use Rattle.sheet_engine.proofs.links_unset as links-unset
+use Rattle.sheet_engine.proofs.links_unset.Reads as links-unset-reads
+use Rattle.sheet_engine.proofs.links_unset.Kinds as links-unset-kinds
 use Rattle.sheet_engine.proofs.step_kind as step-kind
 use Rattle.sheet_engine.proofs.step_kind.Reads as step-kind-reads
 use Rattle.sheet_engine.proofs.step_kind.Kinds as step-kind-kinds
@@ -77,6 +83,12 @@ give-verdict-one κs a z z′ r r′ p q = p ∙ sym q
 
 pub start-one : (κs : Lfts 2) (a : ArgsD start.signature κs) (z z′ : AtExit (endedOf 2 start-kinds.ps start-kinds.r) κs) (r r′ : ResD start.signature κs) → start-reads.Post κs a r z → start-reads.Post κs a r′ z′ → r ≡ r′
 start-one κs a z z′ r r′ p q = p ∙ sym q
+
+pub acts-left-one : (κs : Lfts 0) (a : ArgsD acts-left.signature κs) (z z′ : AtExit (endedOf 0 acts-left-kinds.ps acts-left-kinds.r) κs) (r r′ : ResD acts-left.signature κs) → acts-left-reads.Post κs a r z → acts-left-reads.Post κs a r′ z′ → r ≡ r′
+acts-left-one κs a z z′ r r′ p q = p ∙ sym q
+
+pub links-unset-one : (κs : Lfts 0) (a : ArgsD links-unset.signature κs) (z z′ : AtExit (endedOf 0 links-unset-kinds.ps links-unset-kinds.r) κs) (r r′ : ResD links-unset.signature κs) → links-unset-reads.Post κs a r z → links-unset-reads.Post κs a r′ z′ → r ≡ r′
+links-unset-one κs a z z′ r r′ p q = p ∙ sym q
 
 pub step-kind-one : (κs : Lfts 2) (a : ArgsD step-kind.signature κs) (z z′ : AtExit (endedOf 2 step-kind-kinds.ps step-kind-kinds.r) κs) (r r′ : ResD step-kind.signature κs) → step-kind-reads.Post κs a r z → step-kind-reads.Post κs a r′ z′ → r ≡ r′
 step-kind-one κs a z z′ r r′ p q = p .0 ∙ sym (q .0)

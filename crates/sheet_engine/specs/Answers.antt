@@ -14,7 +14,7 @@ use Rattle.codec.specs.declared.SizeAnswer.{SizeAnswer}
 use Rattle.codec.specs.declared.SizeAnswer.the-variants as size
 use Rattle.state.specs.declared.StepKind.{StepKind}
 use Rattle.state.specs.declared.StepKind.the-variants as kind
-use Rattle.moves.specs.Steps.{listedOf, kindAt}
+use Rattle.moves.specs.Steps.{listedOf, kindAt, startOf}
 use Rattle.moves.specs.Standing.{joinsOf, waitingOf, awaitsOf}
 use Rattle.moves.specs.Fits.{modeCheck, fitChecks}
 use Rattle.engine.specs.declared.Stepped.{Stepped}
@@ -48,9 +48,16 @@ abbrev pub notStarted : ℕ → ℕ → Started
 notStarted number place = started number place (freshOf 0)
 
 unfoldable pub startAnswer : Table → ℕ → Started
-startAnswer t mode = checked notStarted (started 0 0 (freshOf mode)) (startChecks t mode)
+startAnswer t mode = checked notStarted (started 0 0 (startOf t mode)) (startChecks t mode)
 
--- a call with a state: the table's checks, 9, then 10 (a) to (d)
+-- Document 02, request 6: "the two questions are answered from them [...]; they take the state alone, and no check concerns them"
+abbrev pub actsLeft : State → ℕ
+actsLeft s = s .acts
+
+abbrev pub linksUnset : State → ℕ
+linksUnset s = s .unset
+
+-- a call with a state: the table's checks, 9, then 10 (a) to (e)
 abbrev pub callChecks : Table → State → List Check
 callChecks t s = tableChecks t ++ (modeCheck (s .mode) ∷ fitChecks t s)
 

@@ -7,7 +7,7 @@ ghost use Rattle.sheet.specs.Rules.{refuse, refusalOf};
 ghost use Rattle.sheet.specs.Sheet.{settingsOf, termsOf, conditionsOf};
 ghost use Rattle.moves.specs.Steps.{Sized};
 ghost use Rattle.codec.specs.Answers.{Bytes, readOf, partOf, writeOf, writtenOf};
-ghost use Rattle.sheet_engine.specs.Answers.{verdictAnswer, startAnswer, callChecks, listAnswer, listBuffer, standingAnswer, standingBuffer, waitsAnswer, waitsBuffer, kindAnswer, stepAnswer};
+ghost use Rattle.sheet_engine.specs.Answers.{verdictAnswer, startAnswer, actsLeft, linksUnset, callChecks, listAnswer, listBuffer, standingAnswer, standingBuffer, waitsAnswer, waitsBuffer, kindAnswer, stepAnswer};
 use codec::SheetAnswer;
 use codec::SizeAnswer;
 use engine::Stepped;
@@ -124,8 +124,22 @@ pub fn start(h: Head, ts: &[u8], cs: &[u8], mode: u8) -> Started
     Started {
         number: 0,
         place: 0,
-        state: state::fresh(mode),
+        state: counts::counted(h.m, ts, h.n, state::fresh(mode)),
     }
+}
+
+// Is there work left? How many ACT rows are in the remainder, as the state says; nothing is walked, and nothing is judged.
+pub fn acts_left(s: State) -> u16
+    ensures { λ r. ⌜ r ≡ actsLeft s ⌝ }
+{
+    s.acts
+}
+
+// How many links of the sheet are unset, as the state says.
+pub fn links_unset(s: State) -> u16
+    ensures { λ r. ⌜ r ≡ linksUnset s ⌝ }
+{
+    s.unset
 }
 
 // The refusal of a table and a state.

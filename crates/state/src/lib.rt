@@ -1,13 +1,15 @@
-// A state: the mode, one mark for each of 256 rows and one value for each of 64 links. The engine changes it by the four methods.
+// A state: the mode, one mark for each of 256 rows, one value for each of 64 links, how many ACT rows are left and how many links of the sheet are unset. The engine changes it by the five methods.
 ghost use mathlib.Core.Path.{_≡_};
 ghost use Prim.Native.Nat.{_<_};
 ghost use lib.ListN.{replicate};
-ghost use Rattle.state.specs.State.{freshOf, passOf, dropOf, decideOf, setOf};
+ghost use Rattle.state.specs.State.{freshOf, passOf, dropOf, decideOf, setOf, withCounts};
 
 pub struct State {
     pub mode: u8,
     pub marks: [u8; 256],
     pub links: [u8; 64],
+    pub acts: u16,
+    pub unset: u16,
 }
 
 // What a step is, or why there is none: the activity; the link and its value, 0 or 1; a JOIN opened or cleaned away; number and place.
@@ -19,7 +21,7 @@ pub enum StepKind {
     Refused(u8, usize),
 }
 
-// A fresh state: every mark waits, every link is unset.
+// A fresh state: every mark waits, every link is unset, and nothing is counted yet.
 pub fn fresh(mode: u8) -> State
     ensures { λ r. ⌜ r ≡ freshOf mode ⌝ }
     ensures waits { λ r. ⌜ r .marks ≡ replicate 256 0 ⌝ }
@@ -28,6 +30,8 @@ pub fn fresh(mode: u8) -> State
         mode,
         marks: [0; 256],
         links: [0; 64],
+        acts: 0,
+        unset: 0,
     }
 }
 
@@ -58,6 +62,15 @@ impl State {
         } else {
             self.marks[at] = 2;
         }
+        self
+    }
+
+    // The two counts are these.
+    pub fn with_counts(mut self, acts: u16, unset: u16) -> State
+        ensures { λ r. ⌜ r ≡ withCounts self acts unset ⌝ }
+    {
+        self.acts = acts;
+        self.unset = unset;
         self
     }
 

@@ -15,23 +15,20 @@ Inv-loop ts n marks links live row₀ row = Scanned (clearFit ts n (λ k. getD m
 abbrev μ-loop : tie.MeasureT-loop
 μ-loop ts n marks links live row₀ row = n - row
 
-ask-requires : tie.Need-ask-requires Inv-loop μ-loop
-ask-requires c κs = c .before .pre .0
-
 loop-holds : tie.Need-loop-holds Inv-loop μ-loop
 loop-holds c = scanned-none _
-
-array-read-clear-ok : tie.Need-array-read-clear-ok Inv-loop μ-loop
-array-read-clear-ok c = omega arith
 
 element-copy-out-clear-ok : tie.Need-element-copy-out-clear-ok Inv-loop μ-loop
 element-copy-out-clear-ok c = omega arith
 
+element-copy-out-clear-ok-2 : tie.Need-element-copy-out-clear-ok-2 Inv-loop μ-loop
+element-copy-out-clear-ok-2 c = omega arith
+
 clear-ok-requires : tie.Need-clear-ok-requires Inv-loop μ-loop
-clear-ok-requires c κs = (omega arith, c .before .before .before .before .before .pre .1)
+clear-ok-requires c κs = (omega arith, c .before .before .before .before .before .pre .1 .0)
 
 returns : tie.Need-returns Inv-loop μ-loop
-returns c = scanned-stop _ _ (c .before .before .before .before .loop .inv) (c .before .before .before .loop-test .taken) (clear-read _ _ _ _ _ (c .before .before .before .loop-test .taken) _ _ (c .before .before .before .before .before .ask .ensures) (c .before .clear-ok .ensures) ∙ not-true _ (c .if1 .taken))
+returns c = scanned-stop _ _ (c .before .before .before .before .before .loop .inv) (c .before .before .before .before .loop-test .taken) (clear-read _ _ _ _ _ (c .before .before .before .before .loop-test .taken) _ _ (c .before .before .before .before .before .before .before .pre .1 .1) (c .before .clear-ok .ensures) ∙ not-true _ (c .if1 .taken))
 
 add-row : tie.Need-add-row Inv-loop μ-loop
 add-row c = omega arith
@@ -40,7 +37,7 @@ loop-less : tie.Need-loop-less Inv-loop μ-loop
 loop-less c = omega arith
 
 loop-again : tie.Need-loop-again Inv-loop μ-loop
-loop-again c = scanned-more _ _ (c .before .before .before .before .loop .inv) (c .before .before .before .loop-test .taken) (clear-read _ _ _ _ _ (c .before .before .before .loop-test .taken) _ _ (c .before .before .before .before .before .ask .ensures) (c .before .clear-ok .ensures) ∙ not-false _ (c .if1 .left))
+loop-again c = scanned-more _ _ (c .before .before .before .before .before .loop .inv) (c .before .before .before .before .loop-test .taken) (clear-read _ _ _ _ _ (c .before .before .before .before .loop-test .taken) _ _ (c .before .before .before .before .before .before .before .pre .1 .1) (c .before .clear-ok .ensures) ∙ not-false _ (c .if1 .left))
 
 returns-2 : tie.Need-returns-2 Inv-loop μ-loop
 returns-2 c = scanned-end _ _ (c .before .loop .inv) (c .loop-test .left)
@@ -51,10 +48,9 @@ bad-clear-spec =
     (tie.spec
     Inv-loop
     μ-loop
-    ask-requires
     loop-holds
-    array-read-clear-ok
     element-copy-out-clear-ok
+    element-copy-out-clear-ok-2
     clear-ok-requires
     returns
     add-row

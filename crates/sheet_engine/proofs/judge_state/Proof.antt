@@ -13,7 +13,7 @@ returns : tie.Need-returns
 returns c = table-first _ (c .before .before .before .before .args .s) _ (c .before .judge .ensures) (c .if1 .taken)
 
 fit-requires : tie.Need-fit-requires
-fit-requires c κs = let w = well-formed _ (meets _ (ap (λ (r : Refusal). r .number) (sym (c .before .judge .ensures)) ∙ c .if1 .left)) in (w .few-terms, (w .terms-lent, w .tree))
+fit-requires c κs = let w = well-formed _ (meets _ (ap (λ (r : Refusal). r .number) (sym (c .before .judge .ensures)) ∙ c .if1 .left)) in (w .few-links, (w .few-terms, (w .terms-lent, w .tree)))
 
 returns-2 : tie.Need-returns-2
 returns-2 c = state-then _ (c .before .before .before .before .before .args .s) _ (c .before .before .judge .ensures) (c .before .if1 .left) _ (c .fit .ensures)

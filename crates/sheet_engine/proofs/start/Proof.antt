@@ -1,4 +1,7 @@
-use mathlib.Core.Path.{sym, _∙_}
+use mathlib.Core.Path.{sym, _∙_, ap}
+use Rattle.sheet.specs.Table.{tableOf}
+use Rattle.sheet.proofs.Accepted.{accepted-form}
+use Rattle.moves.specs.Steps.{counted}
 use borrow.Author.Tests.{leb-true, leb-false, not-true, not-false}
 use Rattle.sheet_engine.proofs.Calls.{start-refused, start-bad-mode, start-fresh}
 use borrow.Author.Needs.{needs}
@@ -26,8 +29,11 @@ returns-2 c = start-bad-mode _ _ (c .before .before .before .before .judge .ensu
 fresh-requires-3 : tie.Need-fresh-requires-3
 fresh-requires-3 c κs = search needs
 
+counted-requires : tie.Need-counted-requires
+counted-requires c κs = let w = accepted-form _ _ (c .before .before .before .before .judge .ensures) (c .before .before .before .if1 .left) in (w .few-links, (w .few-terms, (w .terms-lent, w .tree)))
+
 returns-3 : tie.Need-returns-3
-returns-3 c = start-fresh _ _ (c .before .before .before .before .judge .ensures) _ (c .fresh3 .result) (c .before .before .before .if1 .left) (leb-true _ 1 (sym (c .before .before .mode-ok .ensures) ∙ not-false _ (c .before .if2 .left))) (c .fresh3 .ensures .0)
+returns-3 c = let a = c .before .before .before .before .before .before .before .before .args in start-fresh _ _ (c .before .before .before .before .before .judge .ensures) _ (c .counted .result) (c .before .before .before .before .if1 .left) (leb-true _ 1 (sym (c .before .before .before .mode-ok .ensures) ∙ not-false _ (c .before .before .if2 .left))) (c .counted .ensures ∙ ap (counted (tableOf (a .h) (a .ts .now) (a .cs .now))) (c .before .fresh3 .ensures .0))
 
 pub start-spec : {M : Type 1} → statement M
 start-spec =
@@ -40,4 +46,5 @@ start-spec =
     fresh-requires-2
     returns-2
     fresh-requires-3
+    counted-requires
     returns-3)

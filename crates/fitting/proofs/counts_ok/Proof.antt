@@ -1,0 +1,17 @@
+use Rattle.moves.specs.Fits.{countsOk}
+use borrow.Author.Needs.{needs}
+use Rattle.fitting.proofs.counts_ok.Statement.{statement}
+use Rattle.fitting.proofs.counts_ok.Tie as tie
+
+acts-requires : tie.Need-acts-requires
+acts-requires c κs = search needs
+
+unset-requires : tie.Need-unset-requires
+unset-requires c κs = search needs
+
+returns : tie.Need-returns
+unfolding countsOk
+returns c = cc
+
+pub counts-ok-spec : {M : Type 1} → statement M
+counts-ok-spec = tie.close (tie.spec acts-requires unset-requires returns)
