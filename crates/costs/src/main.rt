@@ -1,5 +1,5 @@
 // One call, or all but the call, for counting instructions: two runs that differ in the second letter differ by one call.
-// Standard input: r, p, j, w, v, s, l, h, a, k, t or i (read, terms part, judge, write, verdict, start, list, how a state stands, what it waits for, kind, step, step on a lent record); 1 to make the call, 0 not to; the mode; the row asked for; the number of steps taken first, and their rows; the sheet. The answer is printed as three numbers of four hex digits, so that each costs the same.
+// Standard input: r, p, j, w, v, s, q, u, l, h, a, k, t or i (read, terms part, judge, write, verdict, start, ACTs left, links unset, list, how a state stands, what it waits for, kind, step, step on a lent record); 1 to make the call, 0 not to; the mode; the row asked for; the number of steps taken first, and their rows; the sheet. The answer is printed as three numbers of four hex digits, so that each costs the same.
 use codec::SheetAnswer;
 use codec::SizeAnswer;
 use libc::STDIN_FILENO;
@@ -108,6 +108,24 @@ fn state_seen(s: State, at: u8) -> Seen {
     }
 }
 
+// ... and in the place of the mode the two counts, so that the compiler leaves out neither.
+fn after_seen(s: State, at: u8) -> Seen {
+    let seen = state_seen(s, at);
+    Seen {
+        a: s.acts as usize + 256 * (s.unset as usize),
+        b: seen.b,
+        c: seen.c,
+    }
+}
+
+fn count_seen(count: u16) -> Seen {
+    Seen {
+        a: count as usize,
+        b: 0,
+        c: 0,
+    }
+}
+
 fn written_seen(h: Head, ts: &[u8], cs: &[u8], at: u8, out: &mut [u8; 2066]) -> Seen {
     let answer = sheet_engine::write_sheet(h, ts, cs, out);
     size_seen(answer, out, at)
@@ -154,19 +172,21 @@ fn called(
         b'v' => verdict_seen(sheet_engine::give_verdict(h, ts, cs)),
         b's' => {
             let started = sheet_engine::start(h, ts, cs, mode);
-            state_seen(started.state, row)
+            after_seen(started.state, row)
         }
+        b'q' => count_seen(sheet_engine::acts_left(s)),
+        b'u' => count_seen(sheet_engine::links_unset(s)),
         b'l' => list_seen(s, h, ts, cs, row, out),
         b'h' => standing_seen(s, h, ts, cs, row, out),
         b'a' => waits_seen(s, h, ts, cs, row, out),
         b'k' => kind_seen(sheet_engine::step_kind(s, h, ts, cs, row as usize)),
         b'i' => {
             let placed = lent::step_lent(s, h, ts, cs, row as usize);
-            state_seen(placed.state, row)
+            after_seen(placed.state, row)
         }
         _ => {
             let next = sheet_engine::take_step(s, h, ts, cs, row as usize);
-            state_seen(next.state, row)
+            after_seen(next.state, row)
         }
     }
 }

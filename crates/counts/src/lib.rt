@@ -35,6 +35,13 @@ pub fn acts(ts: &[u8], n: usize, marks: &[u8; 256], live: &[u8; 256]) -> u16
     found
 }
 
+// The byte of an unset link.
+fn unset_byte(byte: u8) -> bool
+    ensures { λ r. ⌜ r ≡ eqb byte 0 ⌝ }
+{
+    byte == 0
+}
+
 // The unset links among the first m.
 pub fn unset(m: usize, links: &[u8; 64]) -> u16
     requires { ⌜ m ≤ 64 ⌝ }
@@ -43,7 +50,7 @@ pub fn unset(m: usize, links: &[u8; 64]) -> u16
     let mut found: u16 = 0;
     let mut link = 0;
     while link < m {
-        found += (links[link] == 0) as u16;
+        found += unset_byte(links[link]) as u16;
         link += 1;
     }
     found

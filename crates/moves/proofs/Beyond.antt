@@ -120,7 +120,7 @@ cut-left : (t : Table) (s : State) → leftIn t s ≡ leftIn (cut t) s
 cut-left t s = remainder-same (t .n) (t .terms) (cut t .terms) (λ i h. sym (row-same (t .n) (t .terms) i h)) (marksOf s) 0
 
 pub cut-counted : (t : Table) (s : State) → counted t s ≡ counted (cut t) s
-cut-counted t s = ap (λ (P : Process). withCounts s (actsOf P) (unsetOf (t .m) (linksOf s))) (cut-left t s)
+cut-counted t s = rw (cut-left t s) refl
 
 -- THE STATE FITS a table as it fits the table without the places beyond
 module _ {A : Type 0} (answer : ℕ → ℕ → A) (good : A) (t : Table) (s : State) where
@@ -141,7 +141,7 @@ module _ {A : Type 0} (answer : ℕ → ℕ → A) (good : A) (t : Table) (s : S
 
   counts-same : countsOk (t .m) (t .terms) (t .n) s ≡ countsOk (t .m) (cut t .terms) (t .n) s
   unfolding countsOk
-  counts-same = ap (λ (P : Process). eqb (s .acts) (actsOf P) && eqb (s .unset) (unsetOf (t .m) (linksOf s))) (cut-left t s)
+  counts-same = rw (cut-left t s) refl
 
   pub cut-fits : checked answer good (fitChecks t s) ≡ checked answer good (fitChecks (cut t) s)
   cut-fits =

@@ -1,6 +1,6 @@
 -- A FRESH STATE FITS, and FITTING IS KEPT by every step. Assumes nothing.
-use mathlib.Core.Path.{_≡_, refl, sym, ap, _∙_, subst, subst₂}
-use mathlib.Core.Bool.{Bool, true, false, cond, true≢false}
+use mathlib.Core.Path.{_≡_, refl, sym, ap, ap₂, _∙_, subst, subst₂}
+use mathlib.Core.Bool.{Bool, true, false, cond, _&&_, true≢false}
 use mathlib.Core.List.{List}
 use mathlib.Core.Logic.{⊎-elim, by-cases}
 use mathlib.Core.Option.{some}
@@ -68,7 +68,7 @@ fresh-sized t mode = record { all-marks = refl; all-links = refl }
 -- a state that was counted has the right counts
 right-counts : (t : Table) (s : State) → Holds (countsFit (t .m) (t .terms) (t .n) (counted t s))
 unfolding countsOk
-right-counts t s _ _ _ = rw (self (actsOf (leftIn t s)), self (unsetOf (t .m) (linksOf s))) refl
+right-counts t s _ _ _ = ap₂ _&&_ (self (actsOf (leftIn t s))) (self (unsetOf (t .m) (linksOf s)))
 
 pub fresh-fits : (t : Table) (mode : ℕ) → Fits t (startOf t mode)
 unfolding markOk linkOk waitOk clearOk

@@ -21,14 +21,17 @@ abbrev μ-loop : tie.MeasureT-loop
 loop-holds : tie.Need-loop-holds Inv-loop μ-loop
 loop-holds c = (omega arith, sym (count-zero _))
 
-element-copy-out-found : tie.Need-element-copy-out-found Inv-loop μ-loop
-element-copy-out-found c = omega arith
+element-copy-out-unset-byte : tie.Need-element-copy-out-unset-byte Inv-loop μ-loop
+element-copy-out-unset-byte c = omega arith
+
+unset-byte-requires : tie.Need-unset-byte-requires Inv-loop μ-loop
+unset-byte-requires c κs = search needs
 
 cast-found : tie.Need-cast-found Inv-loop μ-loop
 cast-found c = search needs
 
 add-found : tie.Need-add-found Inv-loop μ-loop
-add-found c = let l = c .before .before .loop in let few : l .found ≤ l .link = rw (l .inv .1) (count-upto _ (l .link)) in omega (arith, few, bit-small (eqb (getD (c .before .before .before .args .links .now) (l .link) 0) 0))
+add-found c = let l = c .before .before .before .loop in let few : l .found ≤ l .link = rw (l .inv .1) (count-upto _ (l .link)) in omega (arith, few, bit-small (c .unset-byte .result))
 
 add-link : tie.Need-add-link Inv-loop μ-loop
 add-link c = omega arith
@@ -37,7 +40,7 @@ loop-less : tie.Need-loop-less Inv-loop μ-loop
 loop-less c = omega arith
 
 loop-again : tie.Need-loop-again Inv-loop μ-loop
-loop-again c = let l = c .before .before .loop in (omega arith, rw (l .inv .1) (sym (count-more _ (l .link))))
+loop-again c = let l = c .before .before .before .loop in (omega arith, rw (l .inv .1, c .unset-byte .ensures) (sym (count-more _ (l .link))))
 
 returns : tie.Need-returns Inv-loop μ-loop
 unfolding unsetOf
@@ -50,7 +53,8 @@ unset-spec =
     Inv-loop
     μ-loop
     loop-holds
-    element-copy-out-found
+    element-copy-out-unset-byte
+    unset-byte-requires
     cast-found
     add-found
     add-link
