@@ -1,13 +1,12 @@
 -- A link is unset exactly if its byte is 0. Assumes nothing.
 use Prim.Native.Nat.{ℕ, zero, suc, _<_}
-use mathlib.Core.Path.{_≡_, refl, sym, ap, _∙_}
-use mathlib.Core.Bool.{Bool, cond, not}
+use mathlib.Core.Path.{_≡_, refl}
+use mathlib.Core.Bool.{not}
 use mathlib.Core.List.{List}
 use native.Mathlib.Omega.{arith}
 use lib.Dec.{eqb}
 use lib.ListN.{getD}
 use borrow.Author.Tests.{lt-ltb, ne-eqb}
-use Rattle.calculus.specs.Status.{Unset}
 use Rattle.conditions.specs.Conditions.{isSet}
 use Rattle.conditions.specs.Numbers.{undigit}
 use Rattle.evaluate.specs.Values.{linksIn}

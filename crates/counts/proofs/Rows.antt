@@ -10,7 +10,7 @@ use Rattle.laws.specs.Tests.{or}
 use Rattle.laws.specs.Sums.{count}
 use Rattle.laws.proofs.Tests.{cases, both-ways, and-false}
 use Rattle.laws.proofs.Sums.{count-same}
-use Rattle.calculus.specs.Process.{Process, nil, prefix, branch, Prefix, act, out, join, Branching, pick, flow}
+use Rattle.calculus.specs.Process.{Process, nil, Prefix, act, out, join, Branching, pick, flow}
 use Rattle.calculus.specs.Rows.{rows}
 use Rattle.steps.specs.Rows.{Row, NIL, PREFIX, BRANCH, Kids, Tree}
 use Rattle.steps.specs.Marks.{Marks, Stand, waits, passed, dropped, stand, Open, both, left, right, open-branches, afterMark, afterTaken}
@@ -45,7 +45,7 @@ act-by kind a b c m =
     no-act false false false false true = refl
     no-act false false false false false = refl
 
--- tests of a row w, of one row a, and of the rows b and c behind it
+-- w: the row asked for is a waiting ACT; a: it is this row; b, c: it stands behind it
 miss : (w a b : Bool) → (w && a) ≡ false → (w && b) ≡ (w && or a b)
 unfolding or
 miss true a b e = rw e refl

@@ -17,7 +17,7 @@ use Rattle.laws.proofs.Up.{up-same}
 use Rattle.laws.proofs.Down.{down-same}
 use Rattle.laws.proofs.Listed.{listed-same}
 use Rattle.laws.proofs.Checks.{checked-same}
-use Rattle.calculus.specs.Process.{Process, act, out, join}
+use Rattle.calculus.specs.Process.{act, out, join}
 use Rattle.calculus.specs.Status.{Value, Links}
 use Rattle.calculus.specs.Places.{Turn, takes, drops, Mode}
 use Rattle.calculus.specs.Steps.{turnOf}
@@ -31,8 +31,8 @@ use Rattle.sheet.specs.Accepted.{WellFormed}
 use Rattle.sheet.proofs.Beyond.{row-same, condition-same}
 use Rattle.worth.specs.Worth.{awaitedAt, worthBy, worthOf, waitByte}
 use Rattle.state.specs.declared.State.{State}
-use Rattle.state.specs.State.{decideOf, withCounts}
-use Rattle.moves.specs.Steps.{modeOf, marksOf, linksOf, nodes, remainderIn, leftIn, turnBy, turnAt, kindTurned, kindAt, isSome, hasStep, listedOf, falsified, otherOf, decidedOf, climbBy, idle, climbed, takenOf, droppedOf, actsOf, unsetOf, counted, steppedBy, steppedOf}
+use Rattle.state.specs.State.{decideOf}
+use Rattle.moves.specs.Steps.{modeOf, marksOf, linksOf, nodes, remainderIn, leftIn, turnBy, turnAt, kindTurned, kindAt, isSome, hasStep, listedOf, falsified, otherOf, decidedOf, climbBy, idle, climbed, takenOf, droppedOf, counted, steppedBy, steppedOf}
 use Rattle.moves.specs.Standing.{joinInFront, joinsOf, waitingBy, waitingOf, awaitedOf, awaitsOf}
 use Rattle.moves.specs.Fits.{suits, markOk, held, waitOk, keeps, live, clearRow, clearOk, marksFit, linksFit, waitsFit, clearFit, countsOk, countsFit, fitChecks}
 use Rattle.moves.proofs.Standing.{join-below, join-inside, awaits-by}

@@ -6,7 +6,7 @@ use mathlib.Core.List.{List}
 use native.Mathlib.Omega.{arith}
 use lib.Dec.{eqb}
 use borrow.Author.Tests.{eqb-true}
-use Rattle.laws.specs.Tests.{or, Apart}
+use Rattle.laws.specs.Tests.{Apart}
 use Rattle.laws.specs.Sums.{count}
 use Rattle.laws.proofs.Tests.{contra, self, or-false, false-or, or-l, or-r, Apart·less}
 use Rattle.laws.proofs.Sums.{count-none, count-single, count-or}

@@ -1,7 +1,7 @@
 -- DOCUMENT 02, REQUEST 6: is there work left? Over what `acts_left` and `links_unset` answer. Assumes nothing.
 use Prim.Native.Nat.{ℕ, _<_, _≤_}
 use mathlib.Core.Path.{_≡_, refl, sym, _∙_, ap, subst}
-use mathlib.Core.Bool.{Bool, true, false, not, true≢false}
+use mathlib.Core.Bool.{true, false, not, true≢false}
 use mathlib.Core.List.{List, [], _∷_, _++_}
 use mathlib.Core.Logic.{⊎-elim, _↔_}
 use mathlib.Core.Option.{Option, none, some}
@@ -24,9 +24,9 @@ use Rattle.codec.specs.declared.SizeAnswer.the-variants as size
 use Rattle.state.specs.declared.State.{State}
 use Rattle.state.specs.declared.StepKind.the-variants as kind
 use Rattle.state.specs.State.{withCounts}
-use Rattle.moves.specs.Steps.{modeOf, marksOf, linksOf, leftIn, turnAt, isSome, hasStep, listedOf, actsOf, actIn, unsetOf, startOf, steppedBy, steppedOf}
+use Rattle.moves.specs.Steps.{modeOf, marksOf, linksOf, leftIn, turnAt, isSome, hasStep, listedOf, actsOf, actIn, unsetOf, steppedBy, steppedOf}
 use Rattle.moves.specs.Standing.{waitingOf}
-use Rattle.moves.specs.Fits.{modeCheck, marksFit, linksFit, waitsFit, clearFit, countsOk, countsFit, fitChecks}
+use Rattle.moves.specs.Fits.{modeCheck, marksFit, linksFit, waitsFit, clearFit, countsOk, countsFit}
 use Rattle.moves.proofs.Counts.{acts-by-row}
 use Rattle.moves.proofs.Demand.{fresh-left, fresh-links}
 use Rattle.sheet_engine.specs.declared.StandingAnswer.the-variants as stands
