@@ -8,7 +8,7 @@ use lib.Dec.{eqb}
 use borrow.Author.Tests.{eqb-true}
 use Rattle.laws.specs.Tests.{or}
 use Rattle.laws.specs.Sums.{count}
-use Rattle.laws.proofs.Tests.{cases, both-ways, and-false}
+use Rattle.laws.proofs.Tests.{cases, both-ways, and-false, and-or-miss, or-and-hit, and-or-both}
 use Rattle.laws.proofs.Sums.{count-same}
 use Rattle.calculus.specs.Process.{Process, nil, Prefix, act, out, join, Branching, pick, flow}
 use Rattle.calculus.specs.Rows.{rows}
@@ -22,9 +22,9 @@ use Rattle.moves.specs.Steps.{remainderIn, actsOf, actIn}
 use Rattle.moves.specs.Fits.{live}
 use Rattle.moves.proofs.Clear.{live-said}
 use Rattle.moves.proofs.Counts.{acts-by-row}
-use Rattle.flags.specs.Flags.{flagged, Shows}
+use Rattle.flags.specs.Flags.{flagged}
 use Rattle.flags.proofs.Shown.{shown}
-use Rattle.front.specs.Asked.{askedAt}
+use Rattle.front.specs.Asked.{ShowsLive}
 use Rattle.front.proofs.Asking.{asked-live}
 use Rattle.counts.specs.Rows.{actWaits}
 
@@ -44,22 +44,6 @@ act-by kind a b c m =
     no-act false false false true t₅ = refl
     no-act false false false false true = refl
     no-act false false false false false = refl
-
--- w: the row asked for is a waiting ACT; a: it is this row; b, c: it stands behind it
-miss : (w a b : Bool) → (w && a) ≡ false → (w && b) ≡ (w && or a b)
-unfolding or
-miss true a b e = rw e refl
-miss false a b e = refl
-
-hit : (w a b : Bool) → (a ≡ true → w ≡ true) → or a (w && b) ≡ (w && or a b)
-unfolding or
-hit w true b f = rw (f refl) refl
-hit w false b f = refl
-
-miss-both : (w a b c : Bool) → (w && a) ≡ false → or (w && b) (w && c) ≡ (w && or a (or b c))
-unfolding or
-miss-both true a b c e = rw e refl
-miss-both false a b c e = refl
 
 module _ (ts : List ℕ) (n : ℕ) (tree : Tree (rowAt ts) n) (μ : Marks) where
   abbrev R : ℕ → Process
@@ -86,9 +70,9 @@ module _ (ts : List ℕ) (n : ℕ) (tree : Tree (rowAt ts) n) (μ : Marks) where
     -- an ACT, OUT or JOIN, by its mark
     mark-same : (i c : ℕ) (π : Prefix) → rowAt ts i ≡ PREFIX π c → (s : Stand) → stand (μ i) ≡ s → Same (R c) → Same (afterMark s i π (R c))
     unfolding actIn rows actWaits waitsBy
-    mark-same i c (act a) e waits z h = ap (or (eqb k i)) h ∙ hit wait (eqb k i) (rows (R c) k) (λ q. own i (PREFIX (act a) c) e q ∙ ap waitsBy z)
-    mark-same i c (out l b) e waits z h = h ∙ miss wait (eqb k i) (rows (R c) k) (other i (PREFIX (out l b) c) e refl)
-    mark-same i c (join q) e waits z h = h ∙ miss wait (eqb k i) (rows (R c) k) (other i (PREFIX (join q) c) e refl)
+    mark-same i c (act a) e waits z h = ap (or (eqb k i)) h ∙ or-and-hit wait (eqb k i) (rows (R c) k) (λ q. own i (PREFIX (act a) c) e q ∙ ap waitsBy z)
+    mark-same i c (out l b) e waits z h = h ∙ and-or-miss wait (eqb k i) (rows (R c) k) (other i (PREFIX (out l b) c) e refl)
+    mark-same i c (join q) e waits z h = h ∙ and-or-miss wait (eqb k i) (rows (R c) k) (other i (PREFIX (join q) c) e refl)
     mark-same i c π e passed z h = h
     mark-same i c (act a) e dropped z h = nil-same i (PREFIX (act a) c) e (ap waitsBy z)
     mark-same i c (out l b) e dropped z h = nil-same i (PREFIX (out l b) c) e refl
@@ -96,7 +80,7 @@ module _ (ts : List ℕ) (n : ℕ) (tree : Tree (rowAt ts) n) (μ : Marks) where
 
     open-same : (i p q : ℕ) (κ : Branching) → rowAt ts i ≡ BRANCH κ p q → (o : Open) → Same (R p) → Same (R q) → Same (afterTaken o i κ (R p) (R q))
     unfolding actIn rows actWaits
-    open-same i p q κ e both f g = ap₂ or f g ∙ miss-both wait (eqb k i) (rows (R p) k) (rows (R q) k) (other i (BRANCH κ p q) e refl)
+    open-same i p q κ e both f g = ap₂ or f g ∙ and-or-both wait (eqb k i) (rows (R p) k) (rows (R q) k) (other i (BRANCH κ p q) e refl)
     open-same i p q κ e left f g = f
     open-same i p q κ e right f g = g
 
@@ -122,5 +106,5 @@ module _ (ts : List ℕ) (n : ℕ) (tree : Tree (rowAt ts) n) (μ : Marks) where
     act-live h = same 0 (tree .some-row) ∙ ⊎-elim (λ (w : wait ≡ true). rw w (live-there h (rowAt ts k) refl w)) (λ (w : wait ≡ false). rw w refl) (cases wait)
 
   -- counted from a table of the live rows
-  pub acts-read : (t : List ℕ) → Shows (askedAt 2 (rowAt ts) μ) n t → actsOf (R 0) ≡ count (λ k. actWaits (rowAt ts k) (μ k) && flagged t k) n
+  pub acts-read : (t : List ℕ) → ShowsLive ts n μ t → actsOf (R 0) ≡ count (λ k. actWaits (rowAt ts k) (μ k) && flagged t k) n
   acts-read t g = acts-by-row ts n μ tree ∙ count-same (actIn (R 0)) (λ k. actWaits (rowAt ts k) (μ k) && flagged t k) n (λ k h. act-live k h ∙ ap (λ (b : Bool). actWaits (rowAt ts k) (μ k) && b) (sym (shown _ n t g k h ∙ asked-live ts μ k)))

@@ -8,8 +8,7 @@ ghost use Rattle.steps.specs.Rows.{Tree};
 ghost use Rattle.sheet.specs.Table.{rowAt};
 ghost use Rattle.evaluate.specs.Values.{linksIn};
 ghost use Rattle.moves.specs.Steps.{remainderIn, actsOf, unsetOf, countedIn};
-ghost use Rattle.flags.specs.Flags.{Shows};
-ghost use Rattle.front.specs.Asked.{askedAt};
+ghost use Rattle.front.specs.Asked.{ShowsLive};
 ghost use Rattle.counts.specs.Rows.{actWaits};
 use state::State;
 
@@ -23,7 +22,7 @@ fn act(ts: &[u8], row: usize, mark: u8, live: u8) -> bool
 
 // The ACT rows in the remainder, from the rows that are live.
 pub fn acts(ts: &[u8], n: usize, marks: &[u8; 256], live: &[u8; 256]) -> u16
-    requires { ⌜ ((n ≤ 256) × ((n * 4 ≤ length (now ts)) × Tree (rowAt (now ts)) n)) × Shows (askedAt 2 (rowAt (now ts)) (λ k. getD (now marks) k 0)) n (now live) ⌝ }
+    requires { ⌜ ((n ≤ 256) × ((n * 4 ≤ length (now ts)) × Tree (rowAt (now ts)) n)) × ShowsLive (now ts) n (λ k. getD (now marks) k 0) (now live) ⌝ }
     ensures { λ r. ⌜ r ≡ actsOf (remainderIn (now (ts .entry)) n (λ k. getD (now (marks .entry)) k 0) 0) ⌝ }
 {
     let mut found: u16 = 0;

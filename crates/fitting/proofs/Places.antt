@@ -21,7 +21,7 @@ use Rattle.sheet.specs.Table.{rowAt}
 use Rattle.moves.specs.Fits.{suits, marksFit, markOk, linkOk, waitOk, clearRow, clearOk}
 use Rattle.flags.specs.Flags.{flagged, Shows}
 use Rattle.flags.proofs.Shown.{shown}
-use Rattle.front.specs.Asked.{askedAt}
+use Rattle.front.specs.Asked.{askedAt, ShowsLive}
 use Rattle.front.proofs.Asking.{asked-held, asked-live}
 use Rattle.fitting.specs.Checks.{restFit}
 
@@ -69,6 +69,6 @@ module _ (ts : List ℕ) (μ : Marks) (n : ℕ) (t : List ℕ) (i : ℕ) (h : i 
   unfolding waitOk
   wait-read s e = sym (e ∙ ap (λ (b : Bool). or (not b) (waiting (rowAt ts i) (μ i))) (shown _ n t s i h ∙ asked-held ts μ i))
 
-  pub clear-read : (links : List ℕ) → Shows (askedAt 2 (rowAt ts) μ) n t → r ≡ or (not (flagged t i)) (clearRow (rowAt ts i) (μ i) links) → clearOk ts μ links i ≡ r
+  pub clear-read : (links : List ℕ) → ShowsLive ts n μ t → r ≡ or (not (flagged t i)) (clearRow (rowAt ts i) (μ i) links) → clearOk ts μ links i ≡ r
   unfolding clearOk
   clear-read links s e = sym (e ∙ ap (λ (b : Bool). or (not b) (clearRow (rowAt ts i) (μ i) links)) (shown _ n t s i h ∙ asked-live ts μ i))

@@ -13,8 +13,7 @@ ghost use Rattle.sheet.specs.Table.{rowAt};
 ghost use Rattle.sheet.specs.Rules.{refuse};
 ghost use Rattle.moves.specs.Steps.{modeOf, marksOf};
 ghost use Rattle.moves.specs.Fits.{suits, clearRow, countsOk, modeCheck, marksFit, linksFit, waitsFit, clearFit};
-ghost use Rattle.flags.specs.Flags.{Shows};
-ghost use Rattle.front.specs.Asked.{askedAt};
+ghost use Rattle.front.specs.Asked.{ShowsLive};
 ghost use Rattle.fitting.specs.Checks.{restFit, fromE, fromD, fromC, fromB, fromA, stateChecks};
 use sheet::Refusal;
 use state::State;
@@ -196,7 +195,7 @@ fn bad_clear<'a>(
     links: &'a [u8; 64],
     live: &[u8; 256],
 ) -> usize
-    requires { ⌜ ((n ≤ 256) × (n * 4 ≤ length (now ts))) × ((length (now links) ≡ 64) × Shows (askedAt 2 (rowAt (now ts)) (λ k. getD (now marks) k 0)) n (now live)) ⌝ }
+    requires { ⌜ ((n ≤ 256) × (n * 4 ≤ length (now ts))) × ((length (now links) ≡ 64) × ShowsLive (now ts) n (λ k. getD (now marks) k 0) (now live)) ⌝ }
     ensures { λ r. ⌜ r ≡ placeOf (clearFit (now (ts .entry)) n (λ k. getD (now (marks .entry)) k 0) (now (links .entry))) ⌝ }
 {
     let mut row = 0;
@@ -211,7 +210,7 @@ fn bad_clear<'a>(
 
 // 10 (e): both counts are right.
 fn counts_ok(m: usize, n: usize, ts: &[u8], s: State, live: &[u8; 256]) -> bool
-    requires { ⌜ ((m ≤ 64) × ((n ≤ 256) × ((n * 4 ≤ length (now ts)) × Tree (rowAt (now ts)) n))) × Shows (askedAt 2 (rowAt (now ts)) (marksOf s)) n (now live) ⌝ }
+    requires { ⌜ ((m ≤ 64) × ((n ≤ 256) × ((n * 4 ≤ length (now ts)) × Tree (rowAt (now ts)) n))) × ShowsLive (now ts) n (marksOf s) (now live) ⌝ }
     ensures { λ r. ⌜ r ≡ countsOk m (now (ts .entry)) n s ⌝ }
 {
     let acts = counts::acts(ts, n, &s.marks, live);
@@ -221,7 +220,7 @@ fn counts_ok(m: usize, n: usize, ts: &[u8], s: State, live: &[u8; 256]) -> bool
 
 // Check 10 (e), the last; the rows that are live are those that (d) was asked of.
 fn fit_counts(m: usize, n: usize, ts: &[u8], s: State, live: &[u8; 256]) -> Refusal
-    requires { ⌜ ((m ≤ 64) × ((n ≤ 256) × ((n * 4 ≤ length (now ts)) × Tree (rowAt (now ts)) n))) × Shows (askedAt 2 (rowAt (now ts)) (marksOf s)) n (now live) ⌝ }
+    requires { ⌜ ((m ≤ 64) × ((n ≤ 256) × ((n * 4 ≤ length (now ts)) × Tree (rowAt (now ts)) n))) × ShowsLive (now ts) n (marksOf s) (now live) ⌝ }
     ensures { λ r. ⌜ r ≡ checked refuse (refuse 0 0) (fromE m n (now (ts .entry)) s) ⌝ }
 {
     if !counts_ok(m, n, ts, s, live) {

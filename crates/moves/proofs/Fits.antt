@@ -2,7 +2,7 @@
 use mathlib.Core.Path.{_≡_, refl, sym, ap, ap₂, _∙_, subst, subst₂}
 use mathlib.Core.Bool.{Bool, true, false, cond, _&&_, true≢false}
 use mathlib.Core.List.{List}
-use mathlib.Core.Logic.{⊎-elim, by-cases}
+use mathlib.Core.Logic.{⊎-elim, by-cases, _↔_}
 use mathlib.Core.Option.{some}
 use Prim.Native.Nat.{ℕ, _<_, _≤_}
 use native.Mathlib.Omega.{arith}
@@ -12,7 +12,7 @@ use lib.ListN.{getD}
 use borrow.Author.Tests.{lt-ltb, le-ltb, leb-true, le-leb, eqb-true, eq-eqb}
 use Rattle.laws.specs.Tests.{or}
 use Rattle.laws.specs.Checks.{Holds}
-use Rattle.laws.proofs.Tests.{not-both, refuted, cond-all, implied, implies, self}
+use Rattle.laws.proofs.Tests.{not-both, refuted, cond-all, implied, implies, and-l, and-r}
 use Rattle.laws.proofs.Up.{getD-constant}
 use Rattle.calculus.specs.Process.{Process, Prefix, act, out, join, pick, flow}
 use Rattle.calculus.specs.Status.{Value, Links}
@@ -65,10 +65,17 @@ unset-clears (BRANCH κ p q) m links z = refl
 pub fresh-sized : (t : Table) (mode : ℕ) → Sized (startOf t mode)
 fresh-sized t mode = record { all-marks = refl; all-links = refl }
 
+-- (e) IN THE REQUEST'S WORDS: no count is wrong
+pub counts-said : (t : Table) (s : State) → (countsOk (t .m) (t .terms) (t .n) s ≡ true) ↔ ((s .acts ≡ actsOf (leftIn t s)) × (s .unset ≡ unsetOf (t .m) (linksOf s)))
+unfolding countsOk
+counts-said t s = (
+  λ e. (eqb-true (s .acts) (actsOf (leftIn t s)) (and-l _ _ e), eqb-true (s .unset) (unsetOf (t .m) (linksOf s)) (and-r (eqb (s .acts) (actsOf (leftIn t s))) _ e)),
+  λ (a, u). ap₂ _&&_ (eq-eqb (s .acts) (actsOf (leftIn t s)) a) (eq-eqb (s .unset) (unsetOf (t .m) (linksOf s)) u),
+)
+
 -- a state that was counted has the right counts
 right-counts : (t : Table) (s : State) → Holds (countsFit (t .m) (t .terms) (t .n) (counted t s))
-unfolding countsOk
-right-counts t s _ _ _ = ap₂ _&&_ (self (actsOf (leftIn t s))) (self (unsetOf (t .m) (linksOf s)))
+right-counts t s _ _ _ = counts-said t (counted t s) .1 (refl, refl)
 
 pub fresh-fits : (t : Table) (mode : ℕ) → Fits t (startOf t mode)
 unfolding markOk linkOk waitOk clearOk

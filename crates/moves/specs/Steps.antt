@@ -38,7 +38,7 @@ marksOf s k = getD (s .marks) k 0
 abbrev pub linksOf : State → Links
 linksOf s = linksIn (s .links)
 
--- of the right size, which the contracts of the calls say of the state that each is handed
+-- of the right size, which the contracts of the calls with a table say of the state that each is handed
 pub record Sized (s : State) : Type 0 where
   pub all-marks : length (s .marks) ≡ 256
   pub all-links : length (s .links) ≡ 64
@@ -183,7 +183,7 @@ counted t = countedIn (t .m) (t .terms) (t .n)
 abbrev pub startOf : Table → ℕ → State
 startOf t mode = counted t (freshOf mode)
 
--- the state after the step of row r, "kept true by every step"; the state itself where the row has no step
+-- the state after the step of row r, with its counts: "Both are kept true by every step"; the state itself where the row has no step
 unfoldable pub steppedBy : Table → State → ℕ → Option Turn → State
 steppedBy t s r none = s
 steppedBy t s r (some takes) = counted t (takenOf (t .terms) (t .n) s r)

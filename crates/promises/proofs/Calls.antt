@@ -1,4 +1,4 @@
--- The calls with a state, where nothing is refused, answer what `moves` defines; and a refused one lists and takes nothing. Assumes nothing.
+-- The calls with a table and a state, where nothing is refused, answer what `moves` defines; and a refused one lists and takes nothing. Assumes nothing.
 use Prim.Native.Nat.{ℕ, _≤_}
 use mathlib.Core.Path.{_≡_, refl, sym, _∙_, ap, ap₂, subst}
 use mathlib.Core.Bool.{true, false, true≢false}
@@ -56,7 +56,7 @@ unfolding kindAt kindTurned
 drops-kind t s r q = rw q refl
 
 module _ (t : Table) (s : State) where
-  -- the refusal of a call with a state
+  -- the refusal of a call with a table and a state
   abbrev pub refusal : Refusal
   refusal = checked refuse (refuse 0 0) (callChecks t s)
 
@@ -66,7 +66,7 @@ module _ (t : Table) (s : State) where
   pub unrefused : Accepted t s → refusal .number ≡ 0
   unrefused a = ap (λ (r : Refusal). r .number) (sym (state-then t s (refusalOf t) refl (a .table) ofState refl) ∙ accepts-fitting t s ofState refl (a .mode) (a .fits))
 
-  -- a call with a state is not refused
+  -- such a call is not refused
   module _ (e : refusal .number ≡ 0) where
     table-accepted : refusalOf t .number ≡ 0
     table-accepted =

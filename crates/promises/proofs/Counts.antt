@@ -4,18 +4,15 @@ use mathlib.Core.Path.{_≡_, refl, sym, _∙_, ap, subst}
 use mathlib.Core.Bool.{true, false, not, true≢false}
 use mathlib.Core.List.{List, [], _∷_, _++_}
 use mathlib.Core.Logic.{⊎-elim, _↔_}
-use mathlib.Core.Option.{Option, none, some}
 use native.Mathlib.Omega.{arith}
-use lib.Dec.{eqb}
 use lib.ListN.{length}
-use borrow.Author.Tests.{eqb-true}
 use Rattle.laws.specs.Sums.{count}
 use Rattle.laws.specs.Checks.{Check}
-use Rattle.laws.proofs.Tests.{cases, refuted, and-l, and-r}
+use Rattle.laws.proofs.Tests.{cases, refuted}
 use Rattle.laws.proofs.Sums.{count-none, count-all}
-use Rattle.calculus.specs.Status.{Value, Unset, False, True}
-use Rattle.calculus.specs.Places.{Turn}
+use Rattle.calculus.specs.Status.{Value, Unset}
 use Rattle.conditions.specs.Conditions.{isSet}
+use Rattle.conditions.proofs.Evaluation.{set-value}
 use Rattle.sheet.specs.Table.{Table, processOf}
 use Rattle.sheet.specs.Rules.{tableChecks, refusalOf}
 use Rattle.sheet.specs.Sheet.{room}
@@ -24,43 +21,27 @@ use Rattle.codec.specs.declared.SizeAnswer.the-variants as size
 use Rattle.state.specs.declared.State.{State}
 use Rattle.state.specs.declared.StepKind.the-variants as kind
 use Rattle.state.specs.State.{withCounts}
-use Rattle.moves.specs.Steps.{modeOf, marksOf, linksOf, leftIn, turnAt, isSome, hasStep, listedOf, actsOf, actIn, unsetOf, steppedBy, steppedOf}
+use Rattle.moves.specs.Steps.{modeOf, marksOf, linksOf, leftIn, listedOf, actsOf, actIn, unsetOf}
 use Rattle.moves.specs.Standing.{waitingOf}
 use Rattle.moves.specs.Fits.{modeCheck, marksFit, linksFit, waitsFit, clearFit, countsOk, countsFit}
+use Rattle.moves.proofs.Fits.{counts-said}
 use Rattle.moves.proofs.Counts.{acts-by-row}
 use Rattle.moves.proofs.Demand.{fresh-left, fresh-links}
 use Rattle.sheet_engine.specs.declared.StandingAnswer.the-variants as stands
 use Rattle.sheet_engine.specs.Answers.{actsLeft, linksUnset, callChecks, listAnswer, standingAnswer, waitsAnswer, kindAnswer, notTaken, stepAnswer}
 use Rattle.sheet_engine.proofs.Values.{all-held}
+use Rattle.sheet_engine.proofs.Steps.{state-back}
 use Rattle.promises.specs.Calls.{Accepted, freshIn, next, Run, last}
 use Rattle.promises.specs.Refused.{FirstFails}
 use Rattle.promises.specs.Counts.{FullCounts}
-use Rattle.promises.proofs.Calls.{formed, unrefused, state-is, stepped, run-keeps}
+use Rattle.promises.proofs.Calls.{formed, unrefused, taken-keeps, run-keeps}
 use Rattle.promises.proofs.Fresh.{is-fresh, fresh-accepted}
 use Rattle.promises.proofs.Refused.{one-out, first-fails}
-
--- a value is set exactly if it is not unset
-value-set : (v : Value) → (not (isSet v) ≡ false) ↔ (v ≡ Unset → ⊥)
-value-set Unset = ((λ e. absurd (true≢false e)), λ f. absurd (f refl))
-value-set False = ((λ _ e. true≢false (ap isSet e)), λ _. refl)
-value-set True = ((λ _ e. true≢false (ap isSet e)), λ _. refl)
-
--- a row without a step leaves the state as it is
-not-stepped : (t : Table) (s : State) (row : ℕ) → hasStep t s row ≡ false → steppedOf t s row ≡ s
-unfolding hasStep steppedOf steppedBy
-not-stepped t s row e = at (turnAt t s row) e
-  where
-    at : (o : Option Turn) → isSome o ≡ false → steppedBy t s row o ≡ s
-    at none _ = refl
-    at (some u) e = absurd (true≢false e)
 
 module _ (t : Table) (s : State) (accepted : Accepted t s) where
   -- "equal to the full counts in every fitting state"
   pub full-counts : FullCounts t s
-  unfolding countsOk
-  full-counts =
-      let e = accepted .fits .counts-fit 0 (omega arith) (omega arith) in
-      record { acts = eqb-true (s .acts) (actsOf (leftIn t s)) (and-l _ _ e); unset = eqb-true (s .unset) (unsetOf (t .m) (linksOf s)) (and-r (eqb (s .acts) (actsOf (leftIn t s))) _ e) }
+  full-counts = let (a, u) = counts-said t s .0 (accepted .fits .counts-fit 0 (omega arith) (omega arith)) in record { acts = a; unset = u }
 
   -- "ACT rows in the remainder", row by row: how many rows of the sheet are such
   pub acts-rows : actsLeft s ≡ count (actIn (leftIn t s)) (t .n)
@@ -75,22 +56,21 @@ module _ (t : Table) (s : State) (accepted : Accepted t s) where
   unfolding unsetOf
   none-unset =
       let (to, back) = count-none (λ l. not (isSet (linksOf s l))) (t .m) in
-      ((λ e l h. value-set (linksOf s l) .0 (to (sym (full-counts .unset) ∙ e) l h)), λ f. full-counts .unset ∙ back (λ l h. value-set (linksOf s l) .1 (f l h)))
+      ((λ e l h z. true≢false (sym (ap (λ (v : Value). not (isSet v)) z) ∙ to (sym (full-counts .unset) ∙ e) l h)), λ f. full-counts .unset ∙ back (λ l h. ap not (set-value (linksOf s l) (f l h))))
 
 -- "Both are kept true by every step, pick decisions and cleaning included": after a step of any kind, and where a row has none and the state is as it was
 pub step-counts : (t : Table) (s : State) → Accepted t s → (row : ℕ) → FullCounts t (next t s row)
 step-counts t s accepted row =
-    rw (state-is t s (unrefused t s accepted) row)
-    (⊎-elim
-    (λ (e : hasStep t s row ≡ true). full-counts t (steppedOf t s row) (stepped t s accepted row e))
-    (λ (e : hasStep t s row ≡ false). rw (not-stepped t s row e) (full-counts t s accepted))
-    (cases (hasStep t s row)))
+    ⊎-elim
+    (λ (e : stepAnswer t s row .ok ≡ true). full-counts t (next t s row) (taken-keeps t s accepted row e))
+    (λ (e : stepAnswer t s row .ok ≡ false). rw (state-back t s row e) (full-counts t s accepted))
+    (cases (stepAnswer t s row .ok))
 
 -- ... so after every run
 pub run-counts : (t : Table) (s : State) → Accepted t s → (G : Run t s) → FullCounts t (last G)
 run-counts t s accepted G = full-counts t (last G) (run-keeps accepted G)
 
--- "A fresh state carries them too": every ACT row of the sheet is left, and all m links are unset
+-- "A fresh state carries them too": as many ACTs are left as the sheet's process has, and all m links are unset
 module _ (t : Table) (accepted : refusalOf t .number ≡ 0) (mode : ℕ) (h : mode ≤ 1) where
   pub fresh-counts : FullCounts t (freshIn t mode)
   fresh-counts = full-counts t (freshIn t mode) (fresh-accepted t accepted mode h)
@@ -111,10 +91,7 @@ module _ (t : Table) (s : State) (accepted : Accepted t s) (a u : ℕ) (wrong : 
   earlier = tableChecks t ++ (modeCheck (s .mode) ∷ marksFit (t .terms) (t .n) (modeOf (s .mode)) (marksOf s) ∷ linksFit (t .m) (s .links) ∷ waitsFit (t .terms) (t .n) (marksOf s) ∷ clearFit (t .terms) (t .n) (marksOf s) (s .links) ∷ [])
 
   breaks : countsOk (t .m) (t .terms) (t .n) z ≡ false
-  unfolding countsOk
-  breaks =
-      let full = full-counts t s accepted in
-      refuted (countsOk (t .m) (t .terms) (t .n) z) (λ e. wrong (eqb-true a (actsOf (leftIn t s)) (and-l _ _ e) ∙ sym (full .acts), eqb-true u (unsetOf (t .m) (linksOf s)) (and-r (eqb a (actsOf (leftIn t s))) _ e) ∙ sym (full .unset)))
+  breaks = let full = full-counts t s accepted in refuted (countsOk (t .m) (t .terms) (t .n) z) (λ e. let (p, q) = counts-said t z .0 e in wrong (p ∙ sym (full .acts), q ∙ sym (full .unset)))
 
   pub wrong-first : (after : List Check) → FirstFails (callChecks t z ++ after) 10 0
   unfolding without

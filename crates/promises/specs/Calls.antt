@@ -20,7 +20,7 @@ use Rattle.moves.specs.Runs.{Taken}
 use Rattle.sheet_engine.specs.Answers.{verdictAnswer, startAnswer, listAnswer, listBuffer, standingAnswer, standingBuffer, waitsAnswer, waitsBuffer, kindAnswer, stepAnswer}
 use Rattle.sheet_engine.specs.Values.{VerdictValues, verdictValues, StandingValues, standingValues}
 
--- A table and a state that a call with a state does not refuse: none of 1 to 10 and 13 fails, and the state is of the right size. Whoever is answered knows all of it from the contract of the call (`list-accepts`, `standing-accepts`, `waits-accepts`, `kind-accepts`, `take-accepts`, `in-place-accepts`).
+-- A table and a state that a call with both does not refuse: none of 1 to 10 and 13 fails, and the state is of the right size. Whoever is answered by one knows all of it from the contract of the call (`list-accepts`, `standing-accepts`, `waits-accepts`, `kind-accepts`, `take-accepts`, `in-place-accepts`).
 pub record Accepted (t : Table) (s : State) : Type 0 where
   pub table : refusalOf t .number ≡ 0
   pub mode : s .mode ≤ 1

@@ -32,7 +32,7 @@ pub data Answer : Type 0 where
   Verdict : VerdictAnswer → Answer
   Seen : (took : List StepKind) (answer : SizeAnswer) (steps : List Taken) (links : List ℕ) → Answer
   Stands : (answer : StandingAnswer) (rows links : List ℕ) → Answer
-  Left : (acts unset : ℕ) → Answer
+  Counts : (acts unset : ℕ) → Answer
 
 pub record Case : Type 0 where
   pub sheet : List ℕ
@@ -62,14 +62,14 @@ seenIn t s took = Seen took (listAnswer t s 256) (listedSteps t s) (take (t .m) 
 abbrev pub standsIn : Table → State → Answer
 standsIn t s = Stands (standingAnswer t s 256) (waitingRows t s) (awaitedBytes t s)
 
-abbrev pub leftOf : State → Answer
-leftOf s = Left (actsLeft s) (linksUnset s)
+abbrev pub countsTold : State → Answer
+countsTold s = Counts (actsLeft s) (linksUnset s)
 
 unfoldable pub answerTo : Table → Question → Answer
 answerTo t verdict = Verdict (verdictAnswer t)
 answerTo t (after mode rows) = seenIn t (stateAfter t (freshIn t mode) rows) (tookAll t (freshIn t mode) rows)
 answerTo t (standing mode rows) = standsIn t (stateAfter t (freshIn t mode) rows)
-answerTo t (counts mode rows) = leftOf (stateAfter t (freshIn t mode) rows)
+answerTo t (counts mode rows) = countsTold (stateAfter t (freshIn t mode) rows)
 
 -- sheet X
 abbrev pub X : List ℕ
@@ -126,13 +126,13 @@ cases =
     -- "cleaning may finish where plain waits": 4, and then the cleaning step 6
     of X (standing 1 (4 ∷ 6 ∷ [])) (Stands Finished [] []) ∷
     -- request 6: the ACTs 10 and 12 are left, and link 0 is unset; the PICK takes a branch, with cleaning the link of the other becomes false, and the clean step takes ACT 12
-    of X (counts 0 []) (Left 2 1) ∷
-    of X (counts 1 []) (Left 2 1) ∷
-    of X (counts 0 (2 ∷ [])) (Left 1 1) ∷
-    of X (counts 1 (2 ∷ [])) (Left 1 0) ∷
-    of X (counts 0 (4 ∷ [])) (Left 1 0) ∷
-    of X (counts 1 (4 ∷ 6 ∷ [])) (Left 0 0) ∷
-    of X (counts 1 (2 ∷ 6 ∷ 7 ∷ [])) (Left 0 0) ∷
+    of X (counts 0 []) (Counts 2 1) ∷
+    of X (counts 1 []) (Counts 2 1) ∷
+    of X (counts 0 (2 ∷ [])) (Counts 1 1) ∷
+    of X (counts 1 (2 ∷ [])) (Counts 1 0) ∷
+    of X (counts 0 (4 ∷ [])) (Counts 1 0) ∷
+    of X (counts 1 (4 ∷ 6 ∷ [])) (Counts 0 0) ∷
+    of X (counts 1 (2 ∷ 6 ∷ 7 ∷ [])) (Counts 0 0) ∷
     -- "lazy OR of links 0 and 1 passes", "strict, it fails with number 5, link 1"
     of (joinOn 1 3 (LINK 0 ++ LINK 1 ++ OR 0 1)) verdict (Verdict Pass) ∷
     of (joinOn 0 3 (LINK 0 ++ LINK 1 ++ OR 0 1)) verdict (Verdict (Fail 2 5 1)) ∷

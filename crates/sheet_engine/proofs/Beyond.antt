@@ -75,7 +75,7 @@ module _ (h : Head) (ts cs : List ℕ) where
       sheet : List ℕ
       sheet = sheetOf h (take (4 * h .n) ts) (take (4 * h .k) cs)
 
--- a call with a state
+-- a call with a table and a state
 module _ {A : Type 0} (answer : ℕ → ℕ → A) (good good′ : A) (t : Table) (s : State) (same : WellFormed t → good ≡ good′) where
   state-cut : WellFormed t → checked answer good (modeCheck (s .mode) ∷ fitChecks t s) ≡ checked answer good′ (modeCheck (s .mode) ∷ fitChecks (cut t) s)
   state-cut w = rw (same w) (checked-same answer good′ (modeCheck (s .mode)) _ (fitChecks t s) (fitChecks (cut t) s) (λ p a b. refl) (λ h. cut-fits answer good′ t s))

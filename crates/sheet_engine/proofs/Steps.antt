@@ -1,4 +1,4 @@
--- The answers of the calls with a state, from what the judge, the fit and the engine say. Assumes nothing.
+-- The answers of the calls with a table and a state, from what the judge, the fit and the engine say. Assumes nothing.
 use Prim.Native.Nat.{ℕ, _<_, _≤_}
 use mathlib.Core.Path.{_≡_, refl, sym, _∙_, ap}
 use mathlib.Core.Bool.{Bool, true, false, cond, not, true≢false}

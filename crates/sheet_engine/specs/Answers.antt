@@ -57,7 +57,7 @@ actsLeft s = s .acts
 abbrev pub linksUnset : State → ℕ
 linksUnset s = s .unset
 
--- a call with a state: the table's checks, 9, then 10 (a) to (e)
+-- a call with a table and a state: the table's checks, 9, then 10 (a) to (e)
 abbrev pub callChecks : Table → State → List Check
 callChecks t s = tableChecks t ++ (modeCheck (s .mode) ∷ fitChecks t s)
 

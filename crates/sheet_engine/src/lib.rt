@@ -1,4 +1,4 @@
-// The calls. Each judges the sheet or table that it is lent, and answers for every input.
+// The calls. Each judges the sheet or table that it is lent, and answers for every input; the two questions asked of a state alone judge nothing.
 ghost use mathlib.Core.Path.{_≡_};
 ghost use lib.ListN.{length};
 ghost use Rattle.sheet.specs.Table.{tableOf};

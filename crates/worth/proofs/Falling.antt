@@ -8,7 +8,7 @@ use native.Mathlib.Omega.{arith}
 use native.Mathlib.Decide.{ℕ-discrete, decLt}
 use lib.Dec.{eqb, ltb}
 use lib.ListN.{getD, replicate}
-use borrow.Author.Tests.{eq-eqb, ne-eqb, lt-ltb, le-ltb, ltb-true, not-true}
+use borrow.Author.Tests.{eq-eqb, ne-eqb, lt-ltb, le-ltb, ltb-true, not-true, not-false}
 use Rattle.laws.specs.Tests.{or}
 use Rattle.laws.specs.Up.{below}
 use Rattle.laws.specs.Lowest.{lowest}
@@ -20,18 +20,13 @@ use Rattle.conditions.specs.Conditions.{Condition, constant, ConditionRow, FALS
 use Rattle.conditions.specs.Numbers.{undigit}
 use Rattle.conditions.specs.Awaited.{lacks, awaited}
 use Rattle.conditions.proofs.Evaluation.{condition-at}
+use Rattle.conditions.proofs.Numbers.{undigit-unset}
 use Rattle.sheet.specs.Table.{conditionRowAt}
 use Rattle.evaluate.specs.Values.{linksIn}
 use Rattle.worth.specs.Sets.{placed, inSet, Adds}
 use Rattle.worth.specs.Worth.{awaitedAt}
 use Rattle.worth.specs.Pass.{isOperand, lowerBy, lowered}
 use Rattle.worth.proofs.Places.{none-in, next-after}
-
-set-byte : (x : ℕ) → (x ≡ 0 → ⊥) → isSet (undigit x) ≡ true
-unfolding undigit
-set-byte zero h = absurd (h refl)
-set-byte (suc zero) h = refl
-set-byte (suc (suc x)) h = refl
 
 -- a link that is not lower does not count
 pub lower-over : (v : Links) (l low : ℕ) → low ≤ l → lowerBy v l low ≡ low
@@ -46,7 +41,7 @@ module _ (links : List ℕ) (l low : ℕ) (small : low ≤ 64) (under : l < low)
 
   pub lower-set : (getD links l 0 ≡ 0 → ⊥) → lowerBy (linksIn links) l low ≡ low
   unfolding lowerBy linksIn
-  lower-set e = rw (lt-ltb l low under, lt-ltb l 64 (omega arith), set-byte (getD links l 0) e)
+  lower-set e = rw (lt-ltb l low under, lt-ltb l 64 (omega arith), not-false (isSet (undigit (getD links l 0))) (sym (undigit-unset (getD links l 0)) ∙ ne-eqb (getD links l 0) 0 e))
 
 -- what is left to visit is told by a test of rows, the marks
 module _ (rows : ℕ → ConditionRow) where
