@@ -107,4 +107,6 @@ module _ (ts : List ℕ) (n : ℕ) (tree : Tree (rowAt ts) n) (μ : Marks) where
 
   -- counted from a table of the live rows
   pub acts-read : (t : List ℕ) → ShowsLive ts n μ t → actsOf (R 0) ≡ count (λ k. actWaits (rowAt ts k) (μ k) && flagged t k) n
-  acts-read t g = acts-by-row ts n μ tree ∙ count-same (actIn (R 0)) (λ k. actWaits (rowAt ts k) (μ k) && flagged t k) n (λ k h. act-live k h ∙ ap (λ (b : Bool). actWaits (rowAt ts k) (μ k) && b) (sym (shown _ n t g k h ∙ asked-live ts μ k)))
+  acts-read t g =
+      acts-by-row ts n μ tree ∙ count-same (actIn (R 0)) (λ k. actWaits (rowAt ts k) (μ k) && flagged t k) n
+      (λ k h. act-live k h ∙ ap (λ (b : Bool). actWaits (rowAt ts k) (μ k) && b) (sym (shown _ n t g k h ∙ asked-live ts μ k)))

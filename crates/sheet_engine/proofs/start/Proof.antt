@@ -33,7 +33,12 @@ counted-requires : tie.Need-counted-requires
 counted-requires c κs = let w = accepted-form _ _ (c .before .before .before .before .judge .ensures) (c .before .before .before .if1 .left) in (w .few-links, (w .few-terms, (w .terms-lent, w .tree)))
 
 returns-3 : tie.Need-returns-3
-returns-3 c = let a = c .before .before .before .before .before .before .before .before .args in start-fresh _ _ (c .before .before .before .before .before .judge .ensures) _ (c .counted .result) (c .before .before .before .before .if1 .left) (leb-true _ 1 (sym (c .before .before .before .mode-ok .ensures) ∙ not-false _ (c .before .before .if2 .left))) (c .counted .ensures ∙ ap (counted (tableOf (a .h) (a .ts .now) (a .cs .now))) (c .before .fresh3 .ensures .0))
+returns-3 c =
+    let j = c .before .before .before .before .before in
+    let a = j .before .before .before .args in
+    start-fresh _ _ (j .judge .ensures) _ (c .counted .result) (c .before .before .before .before .if1 .left)
+    (leb-true _ 1 (sym (c .before .before .before .mode-ok .ensures) ∙ not-false _ (c .before .before .if2 .left)))
+    (c .counted .ensures ∙ ap (counted (tableOf (a .h) (a .ts .now) (a .cs .now))) (c .before .fresh3 .ensures .0))
 
 pub start-spec : {M : Type 1} → statement M
 start-spec =
