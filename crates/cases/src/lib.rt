@@ -5,6 +5,7 @@ ghost use Rattle.io.specs.Counts.{Counts};
 use codec::SizeAnswer;
 use sheet::Head;
 use state::State;
+use state::StepKind;
 
 // The file has ended: no number of four bytes is this great.
 pub const END: usize = 4294967296;
@@ -163,6 +164,17 @@ pub fn told_word(word: u8, x: usize, y: usize) -> Told {
         word,
         x,
         y,
+    }
+}
+
+// What a step is, or why there is none: the words are 1 act, 2 set, 3 open, 4 clean.
+pub fn told_kind(kind: StepKind) -> Told {
+    match kind {
+        StepKind::Act(activity) => told_word(1, wide(activity), 0),
+        StepKind::Set(link, value) => told_word(2, wide(link), wide(value)),
+        StepKind::Open => told_word(3, 0, 0),
+        StepKind::Clean => told_word(4, 0, 0),
+        StepKind::Refused(number, place) => told_refused(number, place),
     }
 }
 

@@ -5,13 +5,13 @@ use cases::Told;
 use cases::byte;
 use cases::four;
 use cases::same_told;
+use cases::told_kind;
 use cases::told_refused;
 use cases::told_word;
 use cases::two;
 use cases::wide;
 use sheet::Head;
 use state::State;
-use state::StepKind;
 
 // More than the rows that a case chooses, and more than its counts take.
 const RUN: usize = 1024;
@@ -40,16 +40,6 @@ fn told_run(refusal: Told, agree: bool, states: usize) -> Told {
     }
 }
 
-fn told_refusal(kind: StepKind) -> Told {
-    match kind {
-        StepKind::Act(_) => told_word(0, 0, 0),
-        StepKind::Set(_, _) => told_word(0, 0, 0),
-        StepKind::Open => told_word(0, 0, 0),
-        StepKind::Clean => told_word(0, 0, 0),
-        StepKind::Refused(number, place) => told_refused(number, place),
-    }
-}
-
 // The run of these rows from a fresh state, up to the first that is refused.
 fn run(fresh: State, h: Head, ts: &[u8], cs: &[u8], rows: &[u8], counts: &[u8]) -> Told
     requires { ⌜ length (now rows) ≤ 1024 ⌝ }
@@ -61,7 +51,7 @@ fn run(fresh: State, h: Head, ts: &[u8], cs: &[u8], rows: &[u8], counts: &[u8]) 
         let next = sheet_engine::take_step(s, h, ts, cs, wide(rows[steps]));
         let answer = next.answer;
         if !next.ok {
-            return told_run(told_refusal(answer), agree, steps + 1);
+            return told_run(told_kind(answer), agree, steps + 1);
         }
         s = next.state;
         steps += 1;

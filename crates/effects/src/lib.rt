@@ -6,6 +6,7 @@ ghost use Rattle.calculus.specs.Places.{falsifies};
 ghost use Rattle.steps.specs.Rows.{firstOf, Tree};
 ghost use Rattle.steps.specs.InFront.{parentOf};
 ghost use Rattle.sheet.specs.Table.{rowAt};
+ghost use Rattle.sheet.specs.Accepted.{RowsLent};
 ghost use Rattle.reach.specs.Masks.{hasBit};
 ghost use Rattle.moves.specs.Steps.{modeOf, isWaitingPick, falsifyFrom, falsified, decidedOf, climbed, ownOf, takenOf, droppedOf, countedIn};
 ghost use Rattle.effects.specs.Gather.{Gathers, ownSets, keptFirst, keptSecond, setsAt, AllKids, OwnBelow};
@@ -163,37 +164,23 @@ fn set_own(ts: &[u8], row: usize, z: State) -> State
     z.set_link(link, 1)
 }
 
-// The row is passed.
-fn pass_row(ts: &[u8], n: usize, old: State, row: usize) -> State
-    requires { ⌜ (n * 4 ≤ length (now ts)) × ((n ≤ 256) × (Tree (rowAt (now ts)) n × ((row < n) × OwnBelow (rowAt (now ts) row)))) ⌝ }
-    ensures { λ r. ⌜ r ≡ takenOf (now (ts .entry)) n old row ⌝ }
+// The row is passed, and the counts are those of what is left.
+pub fn taken(m: usize, ts: &[u8], n: usize, old: State, row: usize) -> State
+    requires { ⌜ ((m ≤ 64) × RowsLent (now ts) n) × ((row < n) × OwnBelow (rowAt (now ts) row)) ⌝ }
+    ensures { λ r. ⌜ r ≡ countedIn m (now (ts .entry)) n (takenOf (now (ts .entry)) n old row) ⌝ }
 {
     let passed = old.pass(row as u8);
     let told = set_own(ts, row, passed);
-    climb(ts, n, old, row, told)
-}
-
-// The row, a JOIN, is dropped.
-fn drop_row(ts: &[u8], n: usize, old: State, row: usize) -> State
-    requires { ⌜ (n * 4 ≤ length (now ts)) × ((n ≤ 256) × (AllKids (now ts) n × ((row < n) × (firstOf (rowAt (now ts) row) < n)))) ⌝ }
-    ensures { λ r. ⌜ r ≡ droppedOf (now (ts .entry)) n old row ⌝ }
-{
-    let next = old.drop_join(row as u8);
-    falsify_below(ts, n, &old.marks, rows::first(ts, row) as usize, next)
-}
-
-// The row is passed, and the counts are those of what is left.
-pub fn taken(m: usize, ts: &[u8], n: usize, old: State, row: usize) -> State
-    requires { ⌜ (m ≤ 64) × ((n * 4 ≤ length (now ts)) × ((n ≤ 256) × (Tree (rowAt (now ts)) n × ((row < n) × OwnBelow (rowAt (now ts) row))))) ⌝ }
-    ensures { λ r. ⌜ r ≡ countedIn m (now (ts .entry)) n (takenOf (now (ts .entry)) n old row) ⌝ }
-{
-    counts::counted(m, ts, n, pass_row(ts, n, old, row))
+    let decided = climb(ts, n, old, row, told);
+    counts::counted(m, ts, n, decided)
 }
 
 // The row, a JOIN, is dropped, and the counts are those of what is left.
 pub fn dropped(m: usize, ts: &[u8], n: usize, old: State, row: usize) -> State
-    requires { ⌜ (m ≤ 64) × ((n * 4 ≤ length (now ts)) × ((n ≤ 256) × (Tree (rowAt (now ts)) n × ((row < n) × (firstOf (rowAt (now ts) row) < n))))) ⌝ }
+    requires { ⌜ ((m ≤ 64) × RowsLent (now ts) n) × ((row < n) × (firstOf (rowAt (now ts) row) < n)) ⌝ }
     ensures { λ r. ⌜ r ≡ countedIn m (now (ts .entry)) n (droppedOf (now (ts .entry)) n old row) ⌝ }
 {
-    counts::counted(m, ts, n, drop_row(ts, n, old, row))
+    let next = old.drop_join(row as u8);
+    let cleaned = falsify_below(ts, n, &old.marks, rows::first(ts, row) as usize, next);
+    counts::counted(m, ts, n, cleaned)
 }

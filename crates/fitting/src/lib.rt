@@ -7,9 +7,9 @@ ghost use lib.Dec.{eqb, ltb, leb};
 ghost use lib.ListN.{length, getD};
 ghost use Rattle.laws.specs.Tests.{or};
 ghost use Rattle.laws.specs.Checks.{Holds, placeOf, checked};
-ghost use Rattle.steps.specs.Rows.{Tree};
 ghost use Rattle.steps.specs.InFront.{waiting};
 ghost use Rattle.sheet.specs.Table.{rowAt};
+ghost use Rattle.sheet.specs.Accepted.{RowsLent};
 ghost use Rattle.sheet.specs.Rules.{refuse};
 ghost use Rattle.moves.specs.Steps.{modeOf, marksOf};
 ghost use Rattle.moves.specs.Fits.{suits, clearRow, countsOk, modeCheck, marksFit, linksFit, waitsFit, clearFit};
@@ -173,7 +173,7 @@ fn bad_link(m: usize, links: &[u8; 64]) -> usize
 
 // 10 (c): the lowest row that should wait and does not.
 fn bad_wait(ts: &[u8], n: usize, marks: &[u8; 256]) -> usize
-    requires { ⌜ (n ≤ 256) × ((n * 4 ≤ length (now ts)) × Tree (rowAt (now ts)) n) ⌝ }
+    requires { ⌜ RowsLent (now ts) n ⌝ }
     ensures { λ r. ⌜ r ≡ placeOf (waitsFit (now (ts .entry)) n (λ k. getD (now (marks .entry)) k 0)) ⌝ }
 {
     let held = front::ask(front::HELD, ts, n, marks);
@@ -210,7 +210,7 @@ fn bad_clear<'a>(
 
 // 10 (e): both counts are right.
 fn counts_ok(m: usize, n: usize, ts: &[u8], s: State, live: &[u8; 256]) -> bool
-    requires { ⌜ ((m ≤ 64) × ((n ≤ 256) × ((n * 4 ≤ length (now ts)) × Tree (rowAt (now ts)) n))) × ShowsLive (now ts) n (marksOf s) (now live) ⌝ }
+    requires { ⌜ ((m ≤ 64) × RowsLent (now ts) n) × ShowsLive (now ts) n (marksOf s) (now live) ⌝ }
     ensures { λ r. ⌜ r ≡ countsOk m (now (ts .entry)) n s ⌝ }
 {
     let acts = counts::acts(ts, n, &s.marks, live);
@@ -220,7 +220,7 @@ fn counts_ok(m: usize, n: usize, ts: &[u8], s: State, live: &[u8; 256]) -> bool
 
 // Check 10 (e), the last; the rows that are live are those that (d) was asked of.
 fn fit_counts(m: usize, n: usize, ts: &[u8], s: State, live: &[u8; 256]) -> Refusal
-    requires { ⌜ ((m ≤ 64) × ((n ≤ 256) × ((n * 4 ≤ length (now ts)) × Tree (rowAt (now ts)) n))) × ShowsLive (now ts) n (marksOf s) (now live) ⌝ }
+    requires { ⌜ ((m ≤ 64) × RowsLent (now ts) n) × ShowsLive (now ts) n (marksOf s) (now live) ⌝ }
     ensures { λ r. ⌜ r ≡ checked refuse (refuse 0 0) (fromE m n (now (ts .entry)) s) ⌝ }
 {
     if !counts_ok(m, n, ts, s, live) {
@@ -237,7 +237,7 @@ fn fit_counts(m: usize, n: usize, ts: &[u8], s: State, live: &[u8; 256]) -> Refu
 
 // Check 10 (d) and on.
 fn fit_clear(m: usize, n: usize, ts: &[u8], s: State) -> Refusal
-    requires { ⌜ (m ≤ 64) × ((n ≤ 256) × ((n * 4 ≤ length (now ts)) × Tree (rowAt (now ts)) n)) ⌝ }
+    requires { ⌜ (m ≤ 64) × RowsLent (now ts) n ⌝ }
     ensures { λ r. ⌜ r ≡ checked refuse (refuse 0 0) (fromD m n (now (ts .entry)) s) ⌝ }
 {
     let live = front::ask(front::LIVE, ts, n, &s.marks);
@@ -250,7 +250,7 @@ fn fit_clear(m: usize, n: usize, ts: &[u8], s: State) -> Refusal
 
 // Check 10 (c) and on.
 fn fit_waits(m: usize, n: usize, ts: &[u8], s: State) -> Refusal
-    requires { ⌜ (m ≤ 64) × ((n ≤ 256) × ((n * 4 ≤ length (now ts)) × Tree (rowAt (now ts)) n)) ⌝ }
+    requires { ⌜ (m ≤ 64) × RowsLent (now ts) n ⌝ }
     ensures { λ r. ⌜ r ≡ checked refuse (refuse 0 0) (fromC m n (now (ts .entry)) s) ⌝ }
 {
     let place = bad_wait(ts, n, &s.marks);
@@ -262,7 +262,7 @@ fn fit_waits(m: usize, n: usize, ts: &[u8], s: State) -> Refusal
 
 // Check 10 (b) and on.
 fn fit_links(m: usize, n: usize, ts: &[u8], s: State) -> Refusal
-    requires { ⌜ (m ≤ 64) × ((n ≤ 256) × ((n * 4 ≤ length (now ts)) × Tree (rowAt (now ts)) n)) ⌝ }
+    requires { ⌜ (m ≤ 64) × RowsLent (now ts) n ⌝ }
     ensures { λ r. ⌜ r ≡ checked refuse (refuse 0 0) (fromB m n (now (ts .entry)) s) ⌝ }
 {
     let place = bad_link(m, &s.links);
@@ -274,7 +274,7 @@ fn fit_links(m: usize, n: usize, ts: &[u8], s: State) -> Refusal
 
 // Check 10 (a) and on.
 fn fit_marks(m: usize, n: usize, ts: &[u8], s: State) -> Refusal
-    requires { ⌜ (m ≤ 64) × ((n ≤ 256) × ((n * 4 ≤ length (now ts)) × Tree (rowAt (now ts)) n)) ⌝ }
+    requires { ⌜ (m ≤ 64) × RowsLent (now ts) n ⌝ }
     ensures { λ r. ⌜ r ≡ checked refuse (refuse 0 0) (fromA m n (now (ts .entry)) s) ⌝ }
 {
     let place = bad_mark(s.mode, ts, n, &s.marks);
@@ -286,7 +286,7 @@ fn fit_marks(m: usize, n: usize, ts: &[u8], s: State) -> Refusal
 
 // The refusal of a state: checks 9 and 10, in order.
 pub fn fit(m: usize, n: usize, ts: &[u8], s: State) -> Refusal
-    requires { ⌜ (m ≤ 64) × ((n ≤ 256) × ((n * 4 ≤ length (now ts)) × Tree (rowAt (now ts)) n)) ⌝ }
+    requires { ⌜ (m ≤ 64) × RowsLent (now ts) n ⌝ }
     ensures { λ r. ⌜ r ≡ checked refuse (refuse 0 0) (stateChecks m n (now (ts .entry)) s) ⌝ }
 {
     let mode = s.mode;

@@ -7,11 +7,11 @@ ghost use lib.Dec.{eqb};
 ghost use Rattle.laws.specs.Tests.{bit};
 ghost use Rattle.calculus.specs.Process.{pick};
 ghost use Rattle.calculus.specs.Places.{cleans};
-ghost use Rattle.steps.specs.Rows.{Tree};
 ghost use Rattle.steps.specs.Marks.{stand, open-branches};
 ghost use Rattle.steps.specs.InFront.{waitsBy, passedBy, undecided, waitingStep, opens};
 ghost use Rattle.steps.specs.Push.{setIf, handed};
 ghost use Rattle.sheet.specs.Table.{rowAt};
+ghost use Rattle.sheet.specs.Accepted.{RowsLent};
 ghost use Rattle.moves.specs.Steps.{modeOf};
 ghost use Rattle.moves.specs.Fits.{keepsBy, keeps};
 ghost use Rattle.flags.specs.Flags.{Shows};
@@ -161,7 +161,7 @@ fn hand(table: &mut [u8; 256], asked: u8, ts: &[u8], row: usize, mark: u8, own: 
 
 // The answer for each row.
 pub fn ask(asked: u8, ts: &[u8], n: usize, marks: &[u8; 256]) -> [u8; 256]
-    requires { ⌜ (n ≤ 256) × ((n * 4 ≤ length (now ts)) × Tree (rowAt (now ts)) n) ⌝ }
+    requires { ⌜ RowsLent (now ts) n ⌝ }
     ensures { λ r. ⌜ Shows (askedAt asked (rowAt (now (ts .entry))) (λ k. getD (now (marks .entry)) k 0)) n r ⌝ }
 {
     let mut table = [0; 256];

@@ -1,21 +1,24 @@
--- THE ACT ROWS IN THE REMAINDER, BY THEIR NUMBERS: each is counted, and once. Assumes nothing.
+-- THE ACT ROWS IN THE REMAINDER, BY THEIR NUMBERS: each is counted, and once; and they are the waiting ACT rows of the sheet that stand there. Assumes nothing.
 use Prim.Native.Nat.{ℕ, _<_}
-use mathlib.Core.Path.{_≡_, refl, sym, ap, _∙_}
-use mathlib.Core.Bool.{true, false}
+use mathlib.Core.Path.{_≡_, refl, sym, ap, ap₂, _∙_}
+use mathlib.Core.Bool.{Bool, true, false, _&&_}
 use mathlib.Core.List.{List}
+use mathlib.Core.Logic.{⊎-elim}
 use native.Mathlib.Omega.{arith}
 use lib.Dec.{eqb}
 use borrow.Author.Tests.{eqb-true}
-use Rattle.laws.specs.Tests.{Apart}
+use Rattle.laws.specs.Tests.{or, Apart}
 use Rattle.laws.specs.Sums.{count}
-use Rattle.laws.proofs.Tests.{contra, self, or-false, false-or, or-l, or-r, Apart·less}
+use Rattle.laws.proofs.Tests.{cases, contra, self, or-false, false-or, or-l, or-r, and-false, and-or-miss, or-and-hit, and-or-both, Apart·less}
 use Rattle.laws.proofs.Sums.{count-none, count-single, count-or}
-use Rattle.calculus.specs.Process.{Process, nil, prefix, branch, act, out, join}
+use Rattle.calculus.specs.Process.{Process, nil, prefix, branch, Prefix, act, out, join, Branching}
 use Rattle.calculus.specs.Rows.{rows, Distinct}
-use Rattle.steps.specs.Rows.{term, Tree}
-use Rattle.steps.specs.Marks.{Marks}
-use Rattle.steps.proofs.Tree.{rows-above, term-distinct}
+use Rattle.steps.specs.Rows.{Row, NIL, PREFIX, BRANCH, Kids, isActPrefix, isAct, term, Tree}
+use Rattle.steps.specs.Marks.{Marks, Stand, waits, passed, dropped, stand, Open, both, left, right, open-branches, afterMark, afterTaken}
+use Rattle.steps.specs.InFront.{waitsBy, waitingAct}
+use Rattle.steps.proofs.Tree.{row-induction, rows-above, term-distinct}
 use Rattle.steps.proofs.Marks.{remainder-rows, remainder-distinct}
+use Rattle.steps.proofs.Remainder.{remainderBy, remainder-at}
 use Rattle.sheet.specs.Table.{rowAt}
 use Rattle.moves.specs.Steps.{remainderIn, actsOf, actIn}
 
@@ -49,3 +52,53 @@ pub acts-by-row : (ts : List ℕ) (n : ℕ) (μ : Marks) → Tree (rowAt ts) n �
 acts-by-row ts n μ t =
     acts-count n (remainderIn ts n μ 0) (remainder-distinct μ (term (rowAt ts) n 0) (term-distinct (rowAt ts) n (t .kids) (t .once) 0 (t .some-row)))
     (λ k e. rows-above (rowAt ts) n (t .kids) 0 (t .some-row) k (contra (remainder-rows μ (term (rowAt ts) n 0) k) e) .1)
+
+-- row k is an ACT of the remainder exactly if it is an ACT that waits and stands there
+module _ (ts : List ℕ) (n : ℕ) (tree : Tree (rowAt ts) n) (μ : Marks) (k : ℕ) where
+  abbrev R : ℕ → Process
+  R = remainderIn ts n μ
+
+  abbrev wait : Bool
+  wait = waitingAct (rowAt ts k) (μ k)
+
+  abbrev Same : Process → Type 0
+  Same P = actIn P k ≡ (wait && rows P k)
+
+  here : (i : ℕ) (N : Row) → rowAt ts i ≡ N → eqb k i ≡ true → wait ≡ waitingAct N (μ i)
+  here i N e q = let z : k ≡ i = eqb-true k i q in rw (z, e) refl
+
+  other : (i : ℕ) (N : Row) → rowAt ts i ≡ N → waitingAct N (μ i) ≡ false → (wait && eqb k i) ≡ false
+  other i N e f = ⊎-elim (λ (q : eqb k i ≡ true). rw (here i N e q ∙ f) refl) (λ (q : eqb k i ≡ false). rw q (and-false wait)) (cases (eqb k i))
+
+  nil-same : (i : ℕ) (N : Row) → rowAt ts i ≡ N → waitingAct N (μ i) ≡ false → Same (nil i)
+  unfolding actIn rows
+  nil-same i N e f = sym (other i N e f)
+
+  -- an ACT, OUT or JOIN, by its mark
+  mark-same : (i c : ℕ) (π : Prefix) → rowAt ts i ≡ PREFIX π c → (s : Stand) → stand (μ i) ≡ s → Same (R c) → Same (afterMark s i π (R c))
+  unfolding actIn rows isAct isActPrefix waitsBy
+  mark-same i c (act a) e waits z h = ap (or (eqb k i)) h ∙ or-and-hit wait (eqb k i) (rows (R c) k) (λ q. here i (PREFIX (act a) c) e q ∙ ap waitsBy z)
+  mark-same i c (out l b) e waits z h = h ∙ and-or-miss wait (eqb k i) (rows (R c) k) (other i (PREFIX (out l b) c) e refl)
+  mark-same i c (join q) e waits z h = h ∙ and-or-miss wait (eqb k i) (rows (R c) k) (other i (PREFIX (join q) c) e refl)
+  mark-same i c π e passed z h = h
+  mark-same i c (act a) e dropped z h = nil-same i (PREFIX (act a) c) e (ap waitsBy z)
+  mark-same i c (out l b) e dropped z h = nil-same i (PREFIX (out l b) c) e refl
+  mark-same i c (join q) e dropped z h = nil-same i (PREFIX (join q) c) e refl
+
+  open-same : (i p q : ℕ) (κ : Branching) → rowAt ts i ≡ BRANCH κ p q → (o : Open) → Same (R p) → Same (R q) → Same (afterTaken o i κ (R p) (R q))
+  unfolding actIn rows isAct
+  open-same i p q κ e both f g = ap₂ or f g ∙ and-or-both wait (eqb k i) (rows (R p) k) (rows (R q) k) (other i (BRANCH κ p q) e refl)
+  open-same i p q κ e left f g = f
+  open-same i p q κ e right f g = g
+
+  row-same : (i : ℕ) → ((j : ℕ) → i < j → j < n → Same (R j)) → (N : Row) → rowAt ts i ≡ N → Kids i n N → Same (remainderBy i N (μ i) R)
+  unfolding remainderBy Kids isAct
+  row-same i ih NIL e _ = nil-same i NIL e refl
+  row-same i ih (PREFIX π c) e kid = mark-same i c π e (stand (μ i)) refl (ih c (kid .0) (kid .1))
+  row-same i ih (BRANCH κ p q) e kid = open-same i p q κ e (open-branches κ (μ i)) (ih p (kid .0 .0) (kid .0 .1)) (ih q (kid .1 .0) (kid .1 .1))
+
+  same : (i : ℕ) → i < n → Same (R i)
+  same = row-induction (rowAt ts) n (tree .kids) (λ i. Same (R i)) (λ i h ih. rw (remainder-at (rowAt ts) n μ (tree .kids) i h) (row-same i ih (rowAt ts i) refl (tree .kids i h)))
+
+  pub act-row : actIn (R 0) k ≡ (waitingAct (rowAt ts k) (μ k) && rows (R 0) k)
+  act-row = same 0 (tree .some-row)

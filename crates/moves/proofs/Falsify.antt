@@ -46,7 +46,7 @@ pub sized-link : (s : State) (l v : ℕ) → Sized s → Sized (setOf s l v)
 sized-link s l v z = record { all-marks = z .all-marks; all-links = length-set (s .links) l v ∙ z .all-links }
 
 -- a link below 64, as the calculus reads it; the byte 0 is unset, and no other is
-links-in : (xs : List ℕ) (l : ℕ) → l < 64 → linksIn xs l ≡ undigit (getD xs l 0)
+pub links-in : (xs : List ℕ) (l : ℕ) → l < 64 → linksIn xs l ≡ undigit (getD xs l 0)
 unfolding linksIn
 links-in xs l h = rw (lt-ltb l 64 h) refl
 

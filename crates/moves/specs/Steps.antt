@@ -1,4 +1,4 @@
--- Document 01, "State and steps": which step a row has in a state, the list of steps, and the state after a step. Every definition is total: any table, any state, any row.
+-- Document 01, "State and steps": which step a row has in a state, the list of steps, the two counts of a state, and the state after a step. Every definition is total: any table, any state, any row.
 use mathlib.Core.Bool.{Bool, true, false, cond, not}
 use mathlib.Core.Path.{_≡_}
 use mathlib.Core.Option.{Option, none, some}
@@ -161,7 +161,7 @@ actsOf (prefix r (out l b) P) = actsOf P
 actsOf (prefix r (join c) P) = actsOf P
 actsOf (branch r κ P Q) = actsOf P + actsOf Q
 
--- ... and row k is one of them
+-- ... and the rows at which they stand
 unfoldable pub actIn : Process → ℕ → Bool
 actIn (nil r) k = false
 actIn (prefix r (act a) P) k = or (eqb k r) (actIn P k)
@@ -169,6 +169,7 @@ actIn (prefix r (out l b) P) k = actIn P k
 actIn (prefix r (join c) P) k = actIn P k
 actIn (branch r κ P Q) k = or (actIn P k) (actIn Q k)
 
+-- the unset links below m
 unfoldable pub unsetOf : ℕ → Links → ℕ
 unsetOf m v = count (λ l. not (isSet (v l))) m
 

@@ -131,6 +131,7 @@ cases =
     of X (counts 0 (2 ∷ [])) (Counts 1 1) ∷
     of X (counts 1 (2 ∷ [])) (Counts 1 0) ∷
     of X (counts 0 (4 ∷ [])) (Counts 1 0) ∷
+    of X (counts 1 (4 ∷ [])) (Counts 1 0) ∷
     of X (counts 1 (4 ∷ 6 ∷ [])) (Counts 0 0) ∷
     of X (counts 1 (2 ∷ 6 ∷ 7 ∷ [])) (Counts 0 0) ∷
     -- "lazy OR of links 0 and 1 passes", "strict, it fails with number 5, link 1"

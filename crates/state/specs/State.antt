@@ -4,7 +4,7 @@ use Prim.Native.Nat.{ℕ}
 use lib.ListN.{set, replicate}
 use Rattle.state.specs.declared.State.{State}
 
--- "A fresh state has 0 in all places but the mode": in its marks and links, since document 02, request 6, whose two counts `startOf` puts in.
+-- "A fresh state has 0 in all places but the mode." By document 02, request 6, it carries its two counts too: `startOf` (`moves/specs/Steps`) puts them in.
 abbrev pub freshOf : ℕ → State
 freshOf m = record { mode = m; marks = replicate 256 0; links = replicate 64 0; acts = 0; unset = 0 }
 

@@ -4,23 +4,12 @@ use cases::Told;
 use cases::byte;
 use cases::four;
 use cases::same_told;
+use cases::told_kind;
 use cases::told_refused;
-use cases::told_word;
 use cases::wide;
 use sheet::Head;
 use state::State;
 use state::StepKind;
-
-// The words are 1 act, 2 set, 3 open, 4 clean.
-fn told_kind(kind: StepKind) -> Told {
-    match kind {
-        StepKind::Act(activity) => told_word(1, wide(activity), 0),
-        StepKind::Set(link, value) => told_word(2, wide(link), wide(value)),
-        StepKind::Open => told_word(3, 0, 0),
-        StepKind::Clean => told_word(4, 0, 0),
-        StepKind::Refused(number, place) => told_refused(number, place),
-    }
-}
 
 fn read_told(file: i32) -> Told {
     let number = byte(file);

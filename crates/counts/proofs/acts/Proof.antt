@@ -6,16 +6,16 @@ use lib.ListN.{getD}
 use Rattle.laws.specs.Sums.{count}
 use Rattle.laws.proofs.Tests.{bit-small}
 use Rattle.laws.proofs.Sums.{count-zero, count-upto, count-more}
+use Rattle.steps.specs.InFront.{waitingAct}
 use Rattle.sheet.specs.Table.{rowAt}
 use Rattle.flags.specs.Flags.{flagged}
-use Rattle.counts.specs.Rows.{actWaits}
 use Rattle.counts.proofs.Rows.{acts-read}
 use borrow.Author.Needs.{needs}
 use Rattle.counts.proofs.acts.Statement.{statement}
 use Rattle.counts.proofs.acts.Tie as tie
 
 abbrev Inv-loop : tie.InvT-loop
-Inv-loop ts n marks live found₀ row₀ found row = (row ≤ n) × (found ≡ count (λ k. actWaits (rowAt ts k) (getD marks k 0) && flagged live k) row)
+Inv-loop ts n marks live found₀ row₀ found row = (row ≤ n) × (found ≡ count (λ k. waitingAct (rowAt ts k) (getD marks k 0) && flagged live k) row)
 
 abbrev μ-loop : tie.MeasureT-loop
 μ-loop ts n marks live found₀ row₀ found row = n - row

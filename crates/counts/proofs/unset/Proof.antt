@@ -1,19 +1,22 @@
 use Prim.Native.Nat.{_≤_, _-_}
-use mathlib.Core.Path.{_≡_, sym, _∙_}
+use mathlib.Core.Path.{_≡_, sym, _∙_, ap}
+use mathlib.Core.Bool.{not}
 use native.Mathlib.Omega.{arith}
-use lib.Dec.{eqb}
 use lib.ListN.{getD}
 use Rattle.laws.specs.Sums.{count}
 use Rattle.laws.proofs.Tests.{bit-small}
 use Rattle.laws.proofs.Sums.{count-zero, count-upto, count-more, count-same}
+use Rattle.calculus.specs.Status.{Value}
+use Rattle.conditions.specs.Conditions.{isSet}
+use Rattle.conditions.specs.Numbers.{undigit}
 use Rattle.moves.specs.Steps.{unsetOf}
-use Rattle.counts.proofs.Links.{link-unset}
+use Rattle.moves.proofs.Falsify.{links-in}
 use borrow.Author.Needs.{needs}
 use Rattle.counts.proofs.unset.Statement.{statement}
 use Rattle.counts.proofs.unset.Tie as tie
 
 abbrev Inv-loop : tie.InvT-loop
-Inv-loop m links found₀ link₀ found link = (link ≤ m) × (found ≡ count (λ l. eqb (getD links l 0) 0) link)
+Inv-loop m links found₀ link₀ found link = (link ≤ m) × (found ≡ count (λ l. not (isSet (undigit (getD links l 0)))) link)
 
 abbrev μ-loop : tie.MeasureT-loop
 μ-loop m links found₀ link₀ found link = m - link
@@ -44,7 +47,7 @@ loop-again c = let l = c .before .before .before .loop in (omega arith, rw (l .i
 
 returns : tie.Need-returns Inv-loop μ-loop
 unfolding unsetOf
-returns c = let e : c .before .loop .link ≡ c .before .before .args .m = omega arith in c .before .loop .inv .1 ∙ rw e (count-same _ _ _ (λ l h. link-unset _ l (omega arith)))
+returns c = let e : c .before .loop .link ≡ c .before .before .args .m = omega arith in c .before .loop .inv .1 ∙ rw e (count-same _ _ _ (λ l h. ap (λ (v : Value). not (isSet v)) (sym (links-in _ l (omega arith)))))
 
 pub unset-spec : {M : Type 1} → statement M
 unset-spec =

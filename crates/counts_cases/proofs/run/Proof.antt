@@ -26,8 +26,8 @@ wide-requires c κs = search needs
 take-step-requires : tie.Need-take-step-requires Inv-loop μ-loop
 take-step-requires c κs = search needs
 
-told-refusal-requires : tie.Need-told-refusal-requires Inv-loop μ-loop
-told-refusal-requires c κs = search needs
+told-kind-requires : tie.Need-told-kind-requires Inv-loop μ-loop
+told-kind-requires c κs = search needs
 
 add-told-run : tie.Need-add-told-run Inv-loop μ-loop
 add-told-run c = omega arith
@@ -73,7 +73,7 @@ run-spec =
     shared-slice-read-wide
     wide-requires
     take-step-requires
-    told-refusal-requires
+    told-kind-requires
     add-told-run
     told-run-requires
     returns

@@ -1,5 +1,5 @@
-use mathlib.Core.Path.{sym, _∙_}
-use mathlib.Core.Path.{refl}
+use mathlib.Core.Path.{refl, sym, _∙_}
+use Rattle.sheet.proofs.Accepted.{rows-lent}
 use Rattle.engine.proofs.Known.{taken-needs, clean-needs, answer-taken, answer-clean, answer-refused}
 use borrow.Author.Needs.{needs}
 use Rattle.engine.proofs.take.Statement.{statement}
@@ -12,25 +12,25 @@ enum-known-a : tie.Need-enum-known-a
 enum-known-a c = search needs
 
 taken-requires : tie.Need-taken-requires
-taken-requires c κs = let w = c .before .before .before .before .before .before .pre in (w .few-links, (w .terms-lent, (w .few-terms, (w .tree, taken-needs _ w _ _ _ (sym (c .before .a .given .1) ∙ c .before .before .before .kind .ensures) refl))))
+taken-requires c κs = let w = c .before .before .before .before .before .before .pre in (rows-lent w, taken-needs _ w _ _ _ (sym (c .before .a .given .1) ∙ c .before .before .before .kind .ensures) refl)
 
 enum-known-l : tie.Need-enum-known-l
 enum-known-l c = search needs
 
 taken-requires-2 : tie.Need-taken-requires-2
-taken-requires-2 c κs = let w = c .before .before .before .before .before .before .pre in (w .few-links, (w .terms-lent, (w .few-terms, (w .tree, taken-needs _ w _ _ _ (sym (c .before .l .given .1) ∙ c .before .before .before .kind .ensures) refl))))
+taken-requires-2 c κs = let w = c .before .before .before .before .before .before .pre in (rows-lent w, taken-needs _ w _ _ _ (sym (c .before .l .given .1) ∙ c .before .before .before .kind .ensures) refl)
 
 enum-told : tie.Need-enum-told
 enum-told c = search needs
 
 taken-requires-3 : tie.Need-taken-requires-3
-taken-requires-3 c κs = let w = c .before .before .before .before .before .pre in (w .few-links, (w .terms-lent, (w .few-terms, (w .tree, taken-needs _ w _ _ _ (sym (c .enum-told .given .1) ∙ c .before .before .kind .ensures) refl))))
+taken-requires-3 c κs = let w = c .before .before .before .before .before .pre in (rows-lent w, taken-needs _ w _ _ _ (sym (c .enum-told .given .1) ∙ c .before .before .kind .ensures) refl)
 
 enum-told-2 : tie.Need-enum-told-2
 enum-told-2 c = search needs
 
 dropped-requires : tie.Need-dropped-requires
-dropped-requires c κs = let w = c .before .before .before .before .before .pre in (w .few-links, (w .terms-lent, (w .few-terms, (w .tree, clean-needs _ w _ _ (sym (c .enum-told2 .given .1) ∙ c .before .before .kind .ensures)))))
+dropped-requires c κs = let w = c .before .before .before .before .before .pre in (rows-lent w, clean-needs _ w _ _ (sym (c .enum-told2 .given .1) ∙ c .before .before .kind .ensures))
 
 enum-known-a-2 : tie.Need-enum-known-a-2
 enum-known-a-2 c = search needs

@@ -1,6 +1,4 @@
-use mathlib.Core.Path.{sym, _∙_, ap}
-use Rattle.sheet.specs.declared.Refusal.{Refusal}
-use Rattle.sheet.proofs.Accepted.{meets, well-formed}
+use Rattle.sheet.proofs.Accepted.{accepted-form, rows-lent}
 use Rattle.sheet_engine.proofs.Steps.{table-first, state-then}
 use borrow.Author.Needs.{needs}
 use Rattle.sheet_engine.proofs.judge_state.Statement.{statement}
@@ -13,7 +11,7 @@ returns : tie.Need-returns
 returns c = table-first _ (c .before .before .before .before .args .s) _ (c .before .judge .ensures) (c .if1 .taken)
 
 fit-requires : tie.Need-fit-requires
-fit-requires c κs = let w = well-formed _ (meets _ (ap (λ (r : Refusal). r .number) (sym (c .before .judge .ensures)) ∙ c .if1 .left)) in (w .few-links, (w .few-terms, (w .terms-lent, w .tree)))
+fit-requires c κs = rows-lent (accepted-form _ _ (c .before .judge .ensures) (c .if1 .left))
 
 returns-2 : tie.Need-returns-2
 returns-2 c = state-then _ (c .before .before .before .before .before .args .s) _ (c .before .before .judge .ensures) (c .before .if1 .left) _ (c .fit .ensures)

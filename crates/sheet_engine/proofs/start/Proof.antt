@@ -1,6 +1,6 @@
 use mathlib.Core.Path.{sym, _∙_, ap}
 use Rattle.sheet.specs.Table.{tableOf}
-use Rattle.sheet.proofs.Accepted.{accepted-form}
+use Rattle.sheet.proofs.Accepted.{accepted-form, rows-lent}
 use Rattle.moves.specs.Steps.{counted}
 use borrow.Author.Tests.{leb-true, leb-false, not-true, not-false}
 use Rattle.sheet_engine.proofs.Calls.{start-refused, start-bad-mode, start-fresh}
@@ -30,7 +30,7 @@ fresh-requires-3 : tie.Need-fresh-requires-3
 fresh-requires-3 c κs = search needs
 
 counted-requires : tie.Need-counted-requires
-counted-requires c κs = let w = accepted-form _ _ (c .before .before .before .before .judge .ensures) (c .before .before .before .if1 .left) in (w .few-links, (w .few-terms, (w .terms-lent, w .tree)))
+counted-requires c κs = rows-lent (accepted-form _ _ (c .before .before .before .before .judge .ensures) (c .before .before .before .if1 .left))
 
 returns-3 : tie.Need-returns-3
 returns-3 c =
