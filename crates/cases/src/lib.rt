@@ -92,8 +92,8 @@ pub fn read_asked(file: i32) -> Asked {
 // A state; each of its counts is one byte.
 pub fn read_state(file: i32) -> State {
     let mode = byte(file);
-    let acts = byte(file) as u16;
-    let unset = byte(file) as u16;
+    let acts = byte(file);
+    let unset = byte(file);
     let mut marks = [0; 256];
     io::read_full(file, &mut marks);
     let mut links = [0; 64];

@@ -118,7 +118,7 @@ fn after_seen(s: State, at: u8) -> Seen {
     }
 }
 
-fn count_seen(count: u16) -> Seen {
+fn count_seen(count: u8) -> Seen {
     Seen {
         a: count as usize,
         b: 0,

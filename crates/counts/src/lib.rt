@@ -22,15 +22,15 @@ fn act(ts: &[u8], row: usize, mark: u8, live: u8) -> bool
     ((ts[row * 4] == 1) & front::waits(mark)) & (live == 1)
 }
 
-// The ACT rows in the remainder, from the rows that are live.
-pub fn acts(ts: &[u8], n: usize, marks: &[u8; 256], live: &[u8; 256]) -> u16
+// The ACT rows in the remainder, from the rows that are live. There are at most 255: the last row is a NIL.
+pub fn acts(ts: &[u8], n: usize, marks: &[u8; 256], live: &[u8; 256]) -> u8
     requires { ⌜ RowsLent (now ts) n × ShowsLive (now ts) n (λ k. getD (now marks) k 0) (now live) ⌝ }
     ensures { λ r. ⌜ r ≡ actsOf (remainderIn (now (ts .entry)) n (λ k. getD (now (marks .entry)) k 0) 0) ⌝ }
 {
-    let mut found: u16 = 0;
+    let mut found: u8 = 0;
     let mut row = 0;
     while row < n {
-        found += act(ts, row, marks[row], live[row]) as u16;
+        found += act(ts, row, marks[row], live[row]) as u8;
         row += 1;
     }
     found
@@ -44,14 +44,14 @@ fn unset_byte(byte: u8) -> bool
 }
 
 // The unset links among the first m.
-pub fn unset(m: usize, links: &[u8; 64]) -> u16
+pub fn unset(m: usize, links: &[u8; 64]) -> u8
     requires { ⌜ m ≤ 64 ⌝ }
     ensures { λ r. ⌜ r ≡ unsetOf m (linksIn (now (links .entry))) ⌝ }
 {
-    let mut found: u16 = 0;
+    let mut found: u8 = 0;
     let mut link = 0;
     while link < m {
-        found += unset_byte(links[link]) as u16;
+        found += unset_byte(links[link]) as u8;
         link += 1;
     }
     found

@@ -18,7 +18,7 @@ const RUN: usize = 1024;
 
 // The two counts of a state, beside two bytes of the case.
 fn counts_agree(s: State, acts: u8, unset: u8) -> bool {
-    (sheet_engine::acts_left(s) == acts as u16) & (sheet_engine::links_unset(s) == unset as u16)
+    (sheet_engine::acts_left(s) == acts) & (sheet_engine::links_unset(s) == unset)
 }
 
 // ... beside those of the state that a run comes to after so many steps.

@@ -1,8 +1,8 @@
 -- The rule of a check at one place, as the code answers it. Assumes nothing.
 use Prim.Native.Nat.{ℕ, _+_, _-_, _<_, _≤_}
 use mathlib.Core.Path.{_≡_, refl, sym, _∙_, ap}
-use mathlib.Core.Bool.{Bool, true, _&&_, not, cond}
-use mathlib.Core.List.{List}
+use mathlib.Core.Bool.{Bool, true, false, _&&_, not, cond}
+use mathlib.Core.List.{List, []}
 use mathlib.Core.Logic.{by-cases, _↔_}
 use native.Mathlib.Omega.{arith}
 use native.Mathlib.Decide.{ℕ-discrete}
@@ -10,20 +10,24 @@ use lib.Dec.{eqb, ltb, leb}
 use lib.ListN.{getD}
 use borrow.Author.Tests.{lt-ltb, le-ltb}
 use Rattle.laws.specs.Tests.{or}
-use Rattle.laws.specs.Checks.{Holds, placeOf}
+use Rattle.laws.specs.Checks.{Holds, placeOf, checked}
 use Rattle.laws.proofs.Tests.{and-l, and-r}
 use Rattle.laws.proofs.Lowest.{lowest-same, lowest-none}
-use Rattle.laws.proofs.Checks.{Scanned}
+use Rattle.laws.proofs.Checks.{Scanned, checked-holds}
 use Rattle.calculus.specs.Places.{Mode}
 use Rattle.steps.specs.Marks.{Marks}
 use Rattle.steps.specs.InFront.{waiting}
 use Rattle.sheet.specs.Table.{rowAt}
-use Rattle.moves.specs.Fits.{suits, marksFit, markOk, linkOk, waitOk, clearRow, clearOk}
+use Rattle.sheet.specs.Rules.{refuse}
+use Rattle.sheet.proofs.Refusals.{one-place-fails, one-place-holds}
+use Rattle.state.specs.declared.State.{State}
+use Rattle.moves.specs.Steps.{marksOf, linksOf, remainderIn, actsOf, unsetOf}
+use Rattle.moves.specs.Fits.{suits, marksFit, markOk, linkOk, waitOk, clearRow, clearOk, clearFit, countsOk, countsFit}
 use Rattle.flags.specs.Flags.{flagged, Shows}
 use Rattle.flags.proofs.Shown.{shown}
 use Rattle.front.specs.Asked.{askedAt, ShowsLive}
 use Rattle.front.proofs.Asking.{asked-held, asked-live}
-use Rattle.fitting.specs.Checks.{restFit}
+use Rattle.fitting.specs.Checks.{fromE, fromD, restFit}
 
 module _ (ts : List ℕ) (n : ℕ) (m : Mode) (μ : Marks) where
   pub mark-read : (i : ℕ) (r : Bool) → i < n → r ≡ suits m (rowAt ts i) (μ i) → markOk ts n m μ i ≡ r
@@ -72,3 +76,16 @@ module _ (ts : List ℕ) (μ : Marks) (n : ℕ) (t : List ℕ) (i : ℕ) (h : i 
   pub clear-read : (links : List ℕ) → ShowsLive ts n μ t → r ≡ or (not (flagged t i)) (clearRow (rowAt ts i) (μ i) links) → clearOk ts μ links i ≡ r
   unfolding clearOk
   clear-read links s e = sym (e ∙ ap (λ (b : Bool). or (not b) (clearRow (rowAt ts i) (μ i) links)) (shown _ n t s i h ∙ asked-live ts μ i))
+
+-- where (d) holds, the refusal is that of (e), from the counts of what is left
+module _ (m n : ℕ) (ts : List ℕ) (s : State) (p : ℕ) (clear : p ≡ placeOf (clearFit ts n (marksOf s) (s .links))) (none : n ≤ p) (a u : ℕ) (acts : a ≡ actsOf (remainderIn ts n (marksOf s) 0)) (unset : u ≡ unsetOf m (linksOf s)) where
+  counts-read : countsOk m ts n s ≡ (eqb (s .acts) a && eqb (s .unset) u)
+  unfolding countsOk
+  counts-read = rw (acts, unset) refl
+
+  pub counts-right : (eqb (s .acts) a && eqb (s .unset) u) ≡ true → refuse 0 0 ≡ checked refuse (refuse 0 0) (fromD m n ts s)
+  unfolding checked
+  counts-right e = one-place-holds refuse (refuse 0 0) (countsFit m ts n s) [] refl (counts-read ∙ e) ∙ checked-holds refuse (refuse 0 0) (clearFit ts n (marksOf s) (s .links)) (fromE m n ts s) p clear none
+
+  pub counts-wrong : (eqb (s .acts) a && eqb (s .unset) u) ≡ false → refuse 10 0 ≡ checked refuse (refuse 0 0) (fromD m n ts s)
+  counts-wrong e = one-place-fails refuse (refuse 0 0) (countsFit m ts n s) [] (omega arith) (counts-read ∙ e) ∙ checked-holds refuse (refuse 0 0) (clearFit ts n (marksOf s) (s .links)) (fromE m n ts s) p clear none

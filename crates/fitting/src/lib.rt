@@ -1,4 +1,4 @@
-// Does a state fit a table? Each check has a function of its own; the chain of the last six is the order of the checks.
+// Does a state fit a table? Each check has a function of its own; the chain of the last five is the order of the checks.
 ghost use mathlib.Core.Path.{_≡_};
 ghost use mathlib.Core.Logic.{_↔_};
 ghost use Prim.Native.Nat.{_+_, _*_, _<_, _≤_};
@@ -11,10 +11,10 @@ ghost use Rattle.steps.specs.InFront.{waiting};
 ghost use Rattle.sheet.specs.Table.{rowAt};
 ghost use Rattle.sheet.specs.Accepted.{RowsLent};
 ghost use Rattle.sheet.specs.Rules.{refuse};
-ghost use Rattle.moves.specs.Steps.{modeOf, marksOf};
-ghost use Rattle.moves.specs.Fits.{suits, clearRow, countsOk, modeCheck, marksFit, linksFit, waitsFit, clearFit};
+ghost use Rattle.moves.specs.Steps.{modeOf};
+ghost use Rattle.moves.specs.Fits.{suits, clearRow, modeCheck, marksFit, linksFit, waitsFit, clearFit};
 ghost use Rattle.front.specs.Asked.{ShowsLive};
-ghost use Rattle.fitting.specs.Checks.{restFit, fromE, fromD, fromC, fromB, fromA, stateChecks};
+ghost use Rattle.fitting.specs.Checks.{restFit, fromD, fromC, fromB, fromA, stateChecks};
 use sheet::Refusal;
 use state::State;
 
@@ -208,34 +208,7 @@ fn bad_clear<'a>(
     row
 }
 
-// 10 (e): both counts are right.
-fn counts_ok(m: usize, n: usize, ts: &[u8], s: State, live: &[u8; 256]) -> bool
-    requires { ⌜ ((m ≤ 64) × RowsLent (now ts) n) × ShowsLive (now ts) n (marksOf s) (now live) ⌝ }
-    ensures { λ r. ⌜ r ≡ countsOk m (now (ts .entry)) n s ⌝ }
-{
-    let acts = counts::acts(ts, n, &s.marks, live);
-    let unset = counts::unset(m, &s.links);
-    (s.acts == acts) & (s.unset == unset)
-}
-
-// Check 10 (e), the last; the rows that are live are those that (d) was asked of.
-fn fit_counts(m: usize, n: usize, ts: &[u8], s: State, live: &[u8; 256]) -> Refusal
-    requires { ⌜ ((m ≤ 64) × RowsLent (now ts) n) × ShowsLive (now ts) n (marksOf s) (now live) ⌝ }
-    ensures { λ r. ⌜ r ≡ checked refuse (refuse 0 0) (fromE m n (now (ts .entry)) s) ⌝ }
-{
-    if !counts_ok(m, n, ts, s, live) {
-        return Refusal {
-            number: 10,
-            place: 0,
-        };
-    }
-    Refusal {
-        number: 0,
-        place: 0,
-    }
-}
-
-// Check 10 (d) and on.
+// Checks 10 (d) and (e), the last: the rows that are live are made once for both.
 fn fit_clear(m: usize, n: usize, ts: &[u8], s: State) -> Refusal
     requires { ⌜ (m ≤ 64) × RowsLent (now ts) n ⌝ }
     ensures { λ r. ⌜ r ≡ checked refuse (refuse 0 0) (fromD m n (now (ts .entry)) s) ⌝ }
@@ -245,7 +218,18 @@ fn fit_clear(m: usize, n: usize, ts: &[u8], s: State) -> Refusal
     if place < n {
         return Refusal { number: 10, place };
     }
-    fit_counts(m, n, ts, s, &live)
+    let acts = counts::acts(ts, n, &s.marks, &live);
+    let unset = counts::unset(m, &s.links);
+    if !((s.acts == acts) & (s.unset == unset)) {
+        return Refusal {
+            number: 10,
+            place: 0,
+        };
+    }
+    Refusal {
+        number: 0,
+        place: 0,
+    }
 }
 
 // Check 10 (c) and on.

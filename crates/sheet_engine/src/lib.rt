@@ -129,14 +129,14 @@ pub fn start(h: Head, ts: &[u8], cs: &[u8], mode: u8) -> Started
 }
 
 // Is there work left? How many ACT rows are in the remainder, as the state says; nothing is walked, and nothing is judged.
-pub fn acts_left(s: State) -> u16
+pub fn acts_left(s: State) -> u8
     ensures { λ r. ⌜ r ≡ actsLeft s ⌝ }
 {
     s.acts
 }
 
 // How many links of the sheet are unset, as the state says.
-pub fn links_unset(s: State) -> u16
+pub fn links_unset(s: State) -> u8
     ensures { λ r. ⌜ r ≡ linksUnset s ⌝ }
 {
     s.unset

@@ -8,8 +8,8 @@ pub struct State {
     pub mode: u8,
     pub marks: [u8; 256],
     pub links: [u8; 64],
-    pub acts: u16,
-    pub unset: u16,
+    pub acts: u8,
+    pub unset: u8,
 }
 
 // What a step is, or why there is none: the activity; the link and its value, 0 or 1; a JOIN opened or cleaned away; number and place.
@@ -66,7 +66,7 @@ impl State {
     }
 
     // The two counts are these.
-    pub fn with_counts(mut self, acts: u16, unset: u16) -> State
+    pub fn with_counts(mut self, acts: u8, unset: u8) -> State
         ensures { λ r. ⌜ r ≡ withCounts self acts unset ⌝ }
     {
         self.acts = acts;

@@ -1,15 +1,15 @@
-use Prim.Native.Nat.{_≤_, _-_}
+use Prim.Native.Nat.{_+_, _-_, _≤_}
 use mathlib.Core.Path.{_≡_, sym, _∙_}
 use mathlib.Core.Bool.{_&&_}
 use native.Mathlib.Omega.{arith}
 use lib.ListN.{getD}
+use Rattle.laws.specs.Tests.{bit}
 use Rattle.laws.specs.Sums.{count}
-use Rattle.laws.proofs.Tests.{bit-small}
-use Rattle.laws.proofs.Sums.{count-zero, count-upto, count-more}
+use Rattle.laws.proofs.Sums.{count-zero, count-more}
 use Rattle.steps.specs.InFront.{waitingAct}
 use Rattle.sheet.specs.Table.{rowAt}
 use Rattle.flags.specs.Flags.{flagged}
-use Rattle.counts.proofs.Rows.{acts-read}
+use Rattle.counts.proofs.Rows.{acts-fit, acts-read}
 use borrow.Author.Needs.{needs}
 use Rattle.counts.proofs.acts.Statement.{statement}
 use Rattle.counts.proofs.acts.Tie as tie
@@ -36,7 +36,12 @@ cast-found : tie.Need-cast-found Inv-loop μ-loop
 cast-found c = search needs
 
 add-found : tie.Need-add-found Inv-loop μ-loop
-add-found c = let l = c .before .before .before .before .loop in let few : l .found ≤ l .row = rw (l .inv .1) (count-upto _ (l .row)) in omega (arith, few, bit-small (c .act .result))
+add-found c =
+    let l = c .before .before .before .before .loop in
+    let f = c .before .before .before .before .before .before in
+    let p = f .pre .0 in
+    let fit : l .found + bit (c .act .result) ≤ 255 = rw (l .inv .1, c .act .ensures) (acts-fit _ _ (p .1 .1) (λ k. getD (f .args .marks .now) k 0) (p .0) (flagged (f .args .live .now)) (l .row) (c .before .before .before .loop-test .taken)) in
+    omega (arith, fit)
 
 add-row : tie.Need-add-row Inv-loop μ-loop
 add-row c = omega arith
