@@ -101,13 +101,14 @@ module _ (t : Table) (accepted : refusalOf t .number ≡ 0) (mode : ℕ) (h : mo
 pub fifth-stands : (t : Table) (s : State) → callChecks t s ≡ upToD t s ++ (countsFit (t .m) (t .terms) (t .n) s ∷ [])
 fifth-stands t s = refl
 
--- so a table and a state are accepted exactly if all the others hold and no count is wrong
-pub accepted-counts : (t : Table) (s : State) → Sized s → Accepted t s ↔ (AllHold (upToD t s) × FullCounts t s)
+-- so a table and a state, of 256 marks and 64 links, are accepted exactly if all the others hold and no count is wrong
+pub accepted-counts : (t : Table) (s : State) → Accepted t s ↔ (Sized s × AllHold (upToD t s) × FullCounts t s)
 unfolding without
-accepted-counts t s whole = (
-  λ a. (one-out (upToD t s) (countsFit (t .m) (t .terms) (t .n) s) [] .0 (all-held (callChecks t s) refl (unrefused t s a)) .0, full-counts t s (a .fits)),
-  λ (hold, full). accepts t s (ap (λ (r : Refusal). r .number) (all-hold refuse (refuse 0 0) (callChecks t s) (one-out (upToD t s) (countsFit (t .m) (t .terms) (t .n) s) [] .1 (hold, fifth-says t s .1 full)))) whole,
-)
+accepted-counts t s =
+    let (to, back) = one-out (upToD t s) (countsFit (t .m) (t .terms) (t .n) s) [] in (
+      λ a. (a .sized, to (all-held (callChecks t s) refl (unrefused t s a)) .0, full-counts t s (a .fits)),
+      λ (whole, hold, full). accepts t s (ap (λ (r : Refusal). r .number) (all-hold refuse (refuse 0 0) (callChecks t s) (back (hold, fifth-says t s .1 full)))) whole,
+    )
 
 -- "a wrong count, place 0": where all the others hold and a count is wrong, every call that judges the state refuses it with 10 and 0. `step_in_place` answers what `take_step` does.
 module _ (t : Table) (s : State) (others : AllHold (upToD t s)) (wrong : FullCounts t s → ⊥) where
