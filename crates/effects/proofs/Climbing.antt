@@ -11,7 +11,7 @@ use lib.Dec.{eqb}
 use lib.ListN.{getD}
 use borrow.Author.Tests.{eq-eqb, ne-eqb, lt-ltb, le-ltb}
 use Rattle.laws.proofs.Tests.{and-false, not-both}
-use Rattle.calculus.specs.Process.{act, out, join, pick, flow}
+use Rattle.calculus.specs.Process.{pick}
 use Rattle.calculus.specs.Places.{own, sets, plain, cleaning, falsifies}
 use Rattle.conditions.specs.Numbers.{digit}
 use Rattle.steps.specs.Rows.{Row, NIL, PREFIX, BRANCH, firstOf, secondOf, isSource, Kids, Tree}
@@ -20,6 +20,7 @@ use Rattle.steps.specs.InFront.{names, parentOf, rightOf, waitingStep, undecide
 use Rattle.steps.proofs.Tree.{child-above}
 use Rattle.steps.proofs.Parents.{child-number, number-child, child-names, names-child, parent-is}
 use Rattle.sheet.specs.Table.{rowBy, rowAt}
+use Rattle.sheet.proofs.Rows.{row-by-kind, row-no-source}
 use Rattle.reach.specs.Masks.{hasBit, linkBit}
 use Rattle.reach.proofs.Bits.{bit-power, bit-none}
 use Rattle.state.specs.declared.State.{State}
@@ -93,41 +94,17 @@ pick-branches i n m (PREFIX π c) k e = absurd (true≢false (sym e))
 pick-branches i n m (BRANCH κ p q) k e = (k .0 .1, k .1 .1)
 
 pub waiting-pick-other : (kind a b c m : ℕ) → eqb kind 4 ≡ false → isWaitingPick (rowBy kind a b c) m ≡ false
-unfolding rowBy isWaitingPick
-waiting-pick-other kind a b c m e = rw e (at (eqb kind 0) (eqb kind 1) (eqb kind 2) (eqb kind 3) (eqb kind 5))
-  where
-    at : (u v w x y : Bool) → isWaitingPick (cond u NIL (cond v (PREFIX (act a) b) (cond w (PREFIX (out a (eqb b 1)) c) (cond x (PREFIX (join a) b) (cond y (BRANCH flow a b) NIL))))) m ≡ false
-    at true v w x y = refl
-    at false true w x y = refl
-    at false false true x y = refl
-    at false false false true y = refl
-    at false false false false true = refl
-    at false false false false false = refl
+unfolding isWaitingPick
+waiting-pick-other kind a b c m f = row-by-kind (λ (N : Row). isWaitingPick N m ≡ false) kind a b c refl (λ _. refl) (λ _. refl) (λ _. refl) (λ e. absurd (not-both e f)) (λ _. refl)
 
 pub waiting-pick : (kind a b c m : ℕ) → kind ≡ 4 → undecided (open-branches pick m) ≡ isWaitingPick (rowBy kind a b c) m
 unfolding rowBy isWaitingPick
 waiting-pick kind a b c m e = rw e refl
 
 -- a row that is no OUT has no link of its own
-other-row : (C : Row → Type 0) (kind a b c : ℕ) → eqb kind 2 ≡ false → C NIL → ((x : ℕ) → C (PREFIX (act a) x)) → ((x : ℕ) → C (PREFIX (join a) x)) → C (BRANCH pick a b) → C (BRANCH flow a b) → C (rowBy kind a b c)
-unfolding rowBy
-other-row C kind a b c e p q r s t = rw e (at (eqb kind 0) (eqb kind 1) (eqb kind 3) (eqb kind 4) (eqb kind 5))
-  where
-    at : (u v w x y : Bool) → C (cond u NIL (cond v (PREFIX (act a) b) (cond w (PREFIX (join a) b) (cond x (BRANCH pick a b) (cond y (BRANCH flow a b) NIL)))))
-    at true v w x y = p
-    at false true w x y = q b
-    at false false true x y = r b
-    at false false false true y = s
-    at false false false false true = t
-    at false false false false false = p
-
 pub own-other : (kind a b c : ℕ) (z : State) → eqb kind 2 ≡ false → ownOf (rowBy kind a b c) z ≡ z
 unfolding ownOf ownLink
-own-other kind a b c z e = other-row (λ (N : Row). ownOf N z ≡ z) kind a b c e refl (λ x. refl) (λ x. refl) refl refl
-
-source-other : (kind a b c l : ℕ) → eqb kind 2 ≡ false → isSource (rowBy kind a b c) l ≡ false
-unfolding isSource own
-source-other kind a b c l e = other-row (λ (N : Row). isSource N l ≡ false) kind a b c e refl (λ x. refl) (λ x. refl) refl refl
+own-other kind a b c z f = row-by-kind (λ (N : Row). ownOf N z ≡ z) kind a b c refl (λ _. refl) (λ e. absurd (not-both e f)) (λ _. refl) (λ _. refl) (λ _. refl)
 
 -- the word of a row's own link
 pub gathers-waits : (N : Row) (m : ℕ) → waitingStep N m ≡ false → Gathers 0 (ownSets N m)
@@ -136,7 +113,7 @@ gathers-waits N m e = gathers-none (ownSets N m) (λ l. rw e refl)
 
 pub gathers-other : (kind a b c m : ℕ) → eqb kind 2 ≡ false → Gathers 0 (ownSets (rowBy kind a b c) m)
 unfolding ownSets
-gathers-other kind a b c m e = gathers-none (ownSets (rowBy kind a b c) m) (λ l. ap (λ (x : Bool). waitingStep (rowBy kind a b c) m && x) (source-other kind a b c l e) ∙ and-false (waitingStep (rowBy kind a b c) m))
+gathers-other kind a b c m e = gathers-none (ownSets (rowBy kind a b c) m) (λ l. ap (λ (x : Bool). waitingStep (rowBy kind a b c) m && x) (row-no-source kind a b c l e) ∙ and-false (waitingStep (rowBy kind a b c) m))
 
 link-bit : (a l : ℕ) → l < 64 → hasBit (linkBit a) l ≡ eqb l a
 unfolding linkBit

@@ -28,7 +28,10 @@ clear-ok-requires : tie.Need-clear-ok-requires Inv-loop μ-loop
 clear-ok-requires c κs = (omega arith, c .before .before .before .before .before .pre .1 .0)
 
 returns : tie.Need-returns Inv-loop μ-loop
-returns c = let w = c .before .before .before .before in scanned-stop _ _ (w .before .loop .inv) (w .loop-test .taken) (clear-read _ _ _ _ _ (w .loop-test .taken) _ _ (w .before .before .before .pre .1 .1) (c .before .clear-ok .ensures) ∙ not-true _ (c .if1 .taken))
+returns c =
+    let w = c .before .before .before .before in
+    scanned-stop _ _ (w .before .loop .inv) (w .loop-test .taken)
+    (clear-read _ _ _ _ _ (w .loop-test .taken) _ _ (w .before .before .before .pre .1 .1) (c .before .clear-ok .ensures) ∙ not-true _ (c .if1 .taken))
 
 add-row : tie.Need-add-row Inv-loop μ-loop
 add-row c = omega arith
@@ -37,7 +40,10 @@ loop-less : tie.Need-loop-less Inv-loop μ-loop
 loop-less c = omega arith
 
 loop-again : tie.Need-loop-again Inv-loop μ-loop
-loop-again c = let w = c .before .before .before .before in scanned-more _ _ (w .before .loop .inv) (w .loop-test .taken) (clear-read _ _ _ _ _ (w .loop-test .taken) _ _ (w .before .before .before .pre .1 .1) (c .before .clear-ok .ensures) ∙ not-false _ (c .if1 .left))
+loop-again c =
+    let w = c .before .before .before .before in
+    scanned-more _ _ (w .before .loop .inv) (w .loop-test .taken)
+    (clear-read _ _ _ _ _ (w .loop-test .taken) _ _ (w .before .before .before .pre .1 .1) (c .before .clear-ok .ensures) ∙ not-false _ (c .if1 .left))
 
 returns-2 : tie.Need-returns-2 Inv-loop μ-loop
 returns-2 c = scanned-end _ _ (c .before .loop .inv) (c .loop-test .left)
