@@ -9,8 +9,9 @@ use lib.Dec.{eqb}
 use lib.ListN.{getD, set}
 use Rattle.laws.proofs.Tests.{contra, refuted, cond-all}
 use Rattle.calculus.specs.Process.{Process, prefix, branch, Prefix, act, out, join, pick, flow}
-use Rattle.calculus.specs.Status.{Value, Unset, False, True}
+use Rattle.calculus.specs.Status.{Value}
 use Rattle.calculus.specs.Places.{sets, Place, row, here, Turn, takes, drops, decides, over, false-if, given, effect, falsifies}
+use Rattle.calculus.proofs.Effects.{over-assoc}
 use Rattle.steps.specs.Rows.{Row, NIL, PREFIX, BRANCH, firstOf, secondOf, term, Kids, Child}
 use Rattle.steps.specs.Marks.{Stand, waits, stand, Open, both, left, right, open-branches, afterMark, afterTaken, mark, marked}
 use Rattle.steps.specs.InFront.{parentOf, rightOf, undecided, opens, leads, reached}
@@ -37,11 +38,6 @@ pub record Is (s : State) (u : Turn) (z : State) (P : Process) (x : Place P) : T
 -- the counts are no part of it
 pub is-counted : {s : State} {u : Turn} {z : State} {P : Process} {x : Place P} (a b : ℕ) → Is s u z P x → Is s u (withCounts z a b) P x
 is-counted a b i = record { sized = record { all-marks = i .sized .all-marks; all-links = i .sized .all-links }; same-mode = i .same-mode; marks-are = i .marks-are; links-are = i .links-are }
-
-over-assoc : (a b c : Value) → over (over a b) c ≡ over a (over b c)
-over-assoc Unset b c = refl
-over-assoc False b c = refl
-over-assoc True b c = refl
 
 module _ (t : Table) (w : WellFormed t) (s : State) where
   abbrev node : ℕ → Row
