@@ -7,8 +7,8 @@ use mathlib.Core.Option.{some}
 use Prim.Native.Nat.{ℕ, _<_, _≤_}
 use native.Mathlib.Omega.{arith}
 use native.Mathlib.Decide.{decLt}
-use lib.Dec.{eqb, ltb}
-use lib.ListN.{getD}
+use lib.Dec.{eqb, ltb, leb}
+use lib.ListN.{getD, List·getD-eq-default}
 use borrow.Author.Tests.{lt-ltb, le-ltb, leb-true, le-leb, eqb-true, eq-eqb}
 use Rattle.laws.specs.Tests.{or}
 use Rattle.laws.specs.Checks.{Holds}
@@ -19,11 +19,14 @@ use Rattle.calculus.specs.Status.{Value, Links}
 use Rattle.calculus.specs.Places.{sets, Place, Turn, takes, drops, over, Mode, falsifies, Allows, Valid, Ready}
 use Rattle.calculus.proofs.Effects.{effect-out, Valid·after}
 use Rattle.calculus.proofs.Steps.{turn-ready}
+use Rattle.conditions.specs.Numbers.{digit}
+use Rattle.conditions.proofs.Numbers.{digit-undigit}
 use Rattle.steps.specs.Rows.{Row, NIL, PREFIX, BRANCH}
 use Rattle.steps.specs.Marks.{stand, open-branches, doneMark}
 use Rattle.steps.specs.InFront.{waitsBy, undecided, waiting, waitingStep, reached}
 use Rattle.sheet.specs.Table.{Table, rowAt, evalIn}
 use Rattle.sheet.specs.Accepted.{WellFormed, SingleSource}
+use Rattle.evaluate.specs.Values.{linksIn}
 use Rattle.state.specs.declared.State.{State}
 use Rattle.state.specs.State.{freshOf, sideMark}
 use Rattle.moves.specs.Steps.{modeOf, marksOf, linksOf, Sized, nodes, leftIn, turnAt, hasStep, isWaitingPick, takenOf, droppedOf, actsOf, unsetOf, counted, steppedBy, steppedOf, startOf}
@@ -93,6 +96,22 @@ fits-valid t w source s f = record {
   single = left-single t w source s;
   clear = λ k e. zero-unset (s .links) k (rows-clear (t .terms) (t .n) (w .tree .kids) (w .tree .once) (marksOf s) (s .links) (λ i h. f .clear-fit i (omega arith) h) k (w .tree .some-row) e);
 }
+
+-- a fitting state's links are 0 to 2, so that each of its bytes is the number of its value; past 64 there is none
+fits-small : (t : Table) (s : State) → Fits t s → Small s
+unfolding linkOk
+fits-small t s f l h = at (ltb l (t .m)) (f .links-fit l (omega arith) h)
+  where
+    at : (b : Bool) → cond b (leb (getD (s .links) l 0) 2) (eqb (getD (s .links) l 0) 0) ≡ true → getD (s .links) l 0 ≤ 2
+    at true e = leb-true (getD (s .links) l 0) 2 e
+    at false e = let z : getD (s .links) l 0 ≡ 0 = eqb-true (getD (s .links) l 0) 0 e in omega arith
+
+pub link-digit : (t : Table) (s : State) → Sized s → Fits t s → (l : ℕ) → getD (s .links) l 0 ≡ digit (linksOf s l)
+unfolding linksIn digit
+link-digit t s size f l =
+    by-cases (decLt l 64)
+    (λ h. rw (lt-ltb l 64 h) (sym (digit-undigit (getD (s .links) l 0) (fits-small t s f l h))))
+    (λ h. rw (le-ltb l 64 (omega arith)) (List·getD-eq-default (s .links) 0 (omega (arith, size .all-links))))
 
 -- the new marks: of the row itself, and of a pick
 done-suits : (eval : ℕ → Links → Value) (v : Links) (m : Mode) (u : Turn) (π : Prefix) → Allows m u → Ready eval u π v → suitsPrefix m π (doneMark u) ≡ true
@@ -190,14 +209,6 @@ module _ (t : Table) (w : WellFormed t) (s : State) (size : Sized s) (r : ℕ) (
         (frames i))
 
     -- (b)
-    small : Small s
-    unfolding linkOk
-    small l h =
-        let g = f .links-fit l (omega arith) h in
-        by-cases (decLt l (t .m))
-        (λ a. leb-true (getD (s .links) l 0) 2 (rw (lt-ltb l (t .m) a) at g))
-        (λ a. let q : getD (s .links) l 0 ≡ 0 = eqb-true _ 0 (rw (le-ltb l (t .m) (omega arith)) at g) in omega arith)
-
     beyond : (l : ℕ) → l < 64 → t .m ≤ l → getD (s .links) l 0 ≡ 0
     unfolding linkOk
     beyond l h a = eqb-true _ 0 (rw (le-ltb l (t .m) a) at (f .links-fit l (omega arith) h))
@@ -207,7 +218,7 @@ module _ (t : Table) (w : WellFormed t) (s : State) (size : Sized s) (r : ℕ) (
       unfolding linkOk
       links-kept l h =
           by-cases (decLt l (t .m))
-          (λ a. rw (lt-ltb l (t .m) a) (le-leb _ 2 (step-small t s r small u e l h)))
+          (λ a. rw (lt-ltb l (t .m) a) (le-leb _ 2 (step-small t s r (fits-small t s f) u e l h)))
           (λ a. rw (le-ltb l (t .m) (omega arith)) (eq-eqb _ 0 (unset-zero (z .links) l h (i .links-are l ∙
           (ap (λ (v : Value). over v (linksOf s l)) (effect-out u (falsifies m) P x l (refuted (sets P l) (λ q. omega (arith, sets-below t w s 0 l (w .tree .some-row) q)))) ∙
           zero-unset (s .links) l (beyond l h (omega arith)))))))

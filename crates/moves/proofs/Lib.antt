@@ -15,5 +15,7 @@ pub mod Beyond
 pub mod Standing
 pub mod Runs
 pub mod Kept
+pub mod AtOnce
+pub mod Unfit
 pub mod Alike
 pub mod Demand

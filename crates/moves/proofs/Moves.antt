@@ -1,5 +1,5 @@
 -- THE STEP OF A ROW IS A MOVE OF THE REMAINDER, and each move is the step of its row: in every state of the right size, in both modes, under both evaluations. Assumes nothing.
-use mathlib.Core.Path.{_≡_, refl, sym, ap, ap₂, _∙_, subst, fun-ext}
+use mathlib.Core.Path.{_≡_, refl, sym, ap, _∙_, subst, fun-ext}
 use mathlib.Core.Bool.{Bool, true, false, cond, _&&_, true≢false}
 use mathlib.Core.Option.{Option, none, some}
 use Prim.Native.Nat.{ℕ, _<_}
@@ -9,7 +9,7 @@ use Rattle.laws.proofs.Tests.{and-l, and-r}
 use Rattle.calculus.specs.Process.{Process, Prefix, act, out, join}
 use Rattle.calculus.specs.Status.{Value, Links}
 use Rattle.calculus.specs.Plain.{Label}
-use Rattle.calculus.specs.Places.{Place, row, here, Turn, takes, drops, after, put-on, effect, Mode, falsifies, named, Ready, Move, move, label, left, links}
+use Rattle.calculus.specs.Places.{Place, row, here, Turn, takes, drops, after, put-on, effect, Mode, falsifies, Allows, named, Ready, Move, move, label, left, links}
 use Rattle.calculus.specs.Rows.{Distinct, row-of}
 use Rattle.calculus.specs.Steps.{turnOf}
 use Rattle.calculus.proofs.Steps.{turn-ready, ready-turn}
@@ -112,6 +112,21 @@ module _ (t : Table) (s : State) (r : ℕ) where
     stepped-at takes e (f, π, c, p, o) = let (h, g, q) = front-parts π c p f in let (x, a, b, i) = taken-at t w s r π size c p h q g in rw e (x, a, b, is-counted _ _ i)
     stepped-at drops e (f, π, c, p, o) = let (h, g, q) = front-parts π c p f in let (x, a, b, i) = dropped-at t w s r π size c p h q g in rw e (x, a, b, is-counted _ _ i)
 
+-- row r has a step, of the kind that the turn makes of what stands at the place, and the state after it is what the calculus says
+pub record Does (t : Table) (s : State) (r : ℕ) (u : Turn) (P : Process) (x : Place P) : Type 0 where
+  pub there : hasStep t s r ≡ true
+  pub kind : kindAt t s r ≡ kindIn (named u r (here P x))
+  pub stepped : Is s u (steppedOf t s r) P x
+
+-- the step of row r: its turn at a place of what is left, which is allowed and ready there
+pub record StepAt (t : Table) (s : State) (r : ℕ) : Type 0 where
+  pub turn : Turn
+  pub place : Place (leftIn t s)
+  pub its-row : row (leftIn t s) place ≡ r
+  pub allowed : Allows (modeOf (s .mode)) turn
+  pub ready : Ready (evalIn t) turn (here (leftIn t s) place) (linksOf s)
+  pub does : Does t s r turn (leftIn t s) place
+
 module _ (t : Table) (w : WellFormed t) (s : State) (size : Sized s) where
   abbrev eval : ℕ → Links → Value
   eval = evalIn t
@@ -125,30 +140,45 @@ module _ (t : Table) (w : WellFormed t) (s : State) (size : Sized s) where
   distinct : Distinct (term (nodes t) (t .n) 0)
   distinct = term-distinct (nodes t) (t .n) (w .tree .kids) (w .tree .once) 0 (w .tree .some-row)
 
+  pub left-distinct : Distinct P
+  left-distinct = remainder-distinct (marksOf s) (term (nodes t) (t .n) 0) distinct
+
   pub left-at : (u : Turn) (x : Place P) (z : State) → Is s u z P x → leftIn t z ≡ after u P x
   left-at u x z i = ap (λ (μ : Marks). remainder μ (term (nodes t) (t .n) 0)) (fun-ext (i .marks-are)) ∙ remainder-marked u (marksOf s) (term (nodes t) (t .n) 0) distinct x
 
   pub links-at : (u : Turn) (x : Place P) (z : State) → Is s u z P x → linksOf z ≡ put-on (effect u (falsifies m) P x) (linksOf s)
   links-at u x z i = fun-ext (i .links-are)
 
+  pub step-place : (r : ℕ) → hasStep t s r ≡ true → StepAt t s r
+  step-place r e =
+      let (u, q) = has-turn t s r e in
+      let f = turn-fronts t s r u q in
+      let (x, p, h, i) = stepped-at t s r w size u q f in
+      let (a, o) = turn-ready eval m (f .1) (linksOf s) u (f .4) in
+      record {
+        turn = u;
+        place = x;
+        its-row = p;
+        allowed = a;
+        ready = subst (λ (π : Prefix). Ready eval u π (linksOf s)) (sym h) o;
+        does = record { there = e; kind = turn-kind t s r u (f .1) (f .2) q (f .3) ∙ ap (λ (π : Prefix). kindIn (named u r π)) (sym h); stepped = i };
+      }
+
   -- a step keeps the mode and the size
   pub step-kept : (r : ℕ) → hasStep t s r ≡ true → Sized (steppedOf t s r) × (steppedOf t s r .mode ≡ s .mode)
-  step-kept r e =
-      let (u, q) = has-turn t s r e in
-      let (x, p, h, i) = stepped-at t s r w size u q (turn-fronts t s r u q) in
-      (i .sized, i .same-mode)
+  step-kept r e = let i = step-place r e .does .stepped in (i .sized, i .same-mode)
 
   -- A STEP IS A MOVE ...
   pub step-move : (r : ℕ) → hasStep t s r ≡ true → (α : Label) × (row-of α ≡ r) × (kindIn α ≡ kindAt t s r) × IsMove eval m P (linksOf s) α (leftIn t (steppedOf t s r)) (linksOf (steppedOf t s r))
   step-move r e =
-      let (u, q) = has-turn t s r e in
-      let f = turn-fronts t s r u q in
-      let (x, p, h, i) = stepped-at t s r w size u q f in
-      let (a, o) = turn-ready eval m (f .1) (linksOf s) u (f .4) in (
-        named u r (f .1),
-        named-row u r (f .1),
-        sym (turn-kind t s r u (f .1) (f .2) q (f .3)),
-        (move u x a (subst (λ (π : Prefix). Ready eval u π (linksOf s)) (sym h) o), ap₂ (named u) p h, sym (left-at u x (steppedOf t s r) i), sym (links-at u x (steppedOf t s r) i)),
+      let g = step-place r e in
+      let u : Turn = g .turn in
+      let x : Place P = g .place in
+      let i = g .does .stepped in (
+        named u r (here P x),
+        named-row u r (here P x),
+        sym (g .does .kind),
+        (move u x (g .allowed) (g .ready), ap (λ (k : ℕ). named u k (here P x)) (g .its-row), sym (left-at u x (steppedOf t s r) i), sym (links-at u x (steppedOf t s r) i)),
       )
 
   -- ... AND A MOVE IS THE STEP OF ITS ROW.
@@ -157,12 +187,18 @@ module _ (t : Table) (w : WellFormed t) (s : State) (size : Sized s) where
   listed-by takes r π Q v a b c d = record { there = a; kind = b; leaves = c; sets = d }
   listed-by drops r π Q v a b c d = record { there = a; kind = b; leaves = c; sets = d }
 
-  pub move-step : (y : Move eval m P (linksOf s)) → Listed t s (label eval y) (left eval y) (links eval y)
-  move-step (move u x a o) =
+  -- a place at which a turn is allowed and ready is the step of its row
+  pub place-step : (u : Turn) (x : Place P) → Allows m u → Ready eval u (here P x) (linksOf s) → Does t s (row P x) u P x
+  place-step u x a o =
       let r : ℕ = row P x in
       let (f, c, p) = place-front (nodes t) (marksOf s) (t .n) (w .tree .kids) (w .tree .once) (w .tree .some-row) x in
       let g : Fronts t s r u = (f, here P x, c, p, ready-turn eval m (here P x) (linksOf s) u a o) in
       let q : turnAt t s r ≡ some u = fronts-turn t s r u g in
       let (y, k, h, i) = stepped-at t s r w size u q g in
-      let j : Is s u (steppedOf t s r) P x = subst (Is s u (steppedOf t s r) P) (one-place P y x (remainder-distinct (marksOf s) (term (nodes t) (t .n) 0) distinct) k) i in
-      listed-by u r (here P x) (after u P x) (put-on (effect u (falsifies m) P x) (linksOf s)) (turn-has t s r u q) (turn-kind t s r u (here P x) c q p) (left-at u x (steppedOf t s r) j) (links-at u x (steppedOf t s r) j)
+      record { there = turn-has t s r u q; kind = turn-kind t s r u (here P x) c q p; stepped = subst (Is s u (steppedOf t s r) P) (one-place P y x left-distinct k) i }
+
+  pub move-step : (y : Move eval m P (linksOf s)) → Listed t s (label eval y) (left eval y) (links eval y)
+  move-step (move u x a o) =
+      let z : State = steppedOf t s (row P x) in
+      let g = place-step u x a o in
+      listed-by u (row P x) (here P x) (after u P x) (put-on (effect u (falsifies m) P x) (linksOf s)) (g .there) (g .kind) (left-at u x z (g .stepped)) (links-at u x z (g .stepped))

@@ -1,29 +1,23 @@
 -- What two states share, as a caller sees it: the listed steps, and the bytes of the links. Assumes nothing.
-use Prim.Native.Nat.{ℕ, zero, suc, _≤_, _<_}
+use Prim.Native.Nat.{ℕ, zero, suc}
 use mathlib.Core.Path.{_≡_, refl, sym, _∙_, ap, ap₂, subst, fun-ext}
 use mathlib.Core.Bool.{Bool, true, false, cond}
 use mathlib.Core.List.{List, _∷_, map}
-use mathlib.Core.Logic.{_⊎_, inl, inr, ⊎-elim, by-cases, _↔_}
+use mathlib.Core.Logic.{_⊎_, inl, inr, ⊎-elim, _↔_}
 use native.Mathlib.Omega.{arith}
-use native.Mathlib.Decide.{decLt}
-use lib.Dec.{eqb, ltb, leb}
-use lib.ListN.{List·getD-eq-default}
-use borrow.Author.Tests.{lt-ltb, le-ltb, leb-true, eqb-true}
 use Rattle.laws.specs.Listed.{listed}
 use Rattle.laws.proofs.Tests.{not-both}
 use Rattle.calculus.specs.Order.{_⊑_}
 use Rattle.calculus.specs.Places.{Grows}
 use Rattle.calculus.proofs.Order.{below-cases}
 use Rattle.conditions.specs.Numbers.{digit}
-use Rattle.conditions.proofs.Numbers.{digit-undigit}
 use Rattle.sheet.specs.Table.{Table}
-use Rattle.evaluate.specs.Values.{linksIn}
 use Rattle.state.specs.declared.State.{State}
 use Rattle.state.specs.declared.StepKind.{StepKind}
 use Rattle.state.specs.declared.StepKind.the-variants.{Act, Set, Open, Clean, Refused}
 use Rattle.moves.specs.Steps.{linksOf, kindAt, hasStep, listedOf}
-use Rattle.moves.specs.Fits.{linkOk}
 use Rattle.moves.specs.Runs.{Taken, unless-clean, struck, Alike}
+use Rattle.moves.proofs.Fits.{link-digit}
 use Rattle.moves.proofs.Kept.{links-never-alter}
 use Rattle.promises.specs.Calls.{Accepted, link, listedSteps, Run, last}
 use Rattle.promises.proofs.Calls.{formed, one-source, unrefused, kind-is, rows-are, to-steps, run-keeps}
@@ -70,22 +64,9 @@ same-listed t s z a b h =
     shown : (s : State) → Accepted t s → listedSteps t s ≡ with-kinds (kindAt t s) (listedOf t s)
     shown s a = let e = unrefused t s a in ap₂ with-kinds (fun-ext (kind-is t s e)) (rows-are t s e)
 
--- A byte of a state's links is the number of its value: 0 to 2 below 64, and 0 past it.
-module _ (t : Table) (s : State) (a : Accepted t s) where
-  link-small : (l : ℕ) → l < 64 → link s l ≤ 2
-  unfolding linkOk
-  link-small l h = at (ltb l (t .m)) (a .fits .links-fit l (omega arith) h)
-    where
-      at : (b : Bool) → cond b (leb (link s l) 2) (eqb (link s l) 0) ≡ true → link s l ≤ 2
-      at true e = leb-true (link s l) 2 e
-      at false e = let z : link s l ≡ 0 = eqb-true (link s l) 0 e in omega arith
-
-  pub link-is : (l : ℕ) → link s l ≡ digit (linksOf s l)
-  unfolding linksIn digit
-  link-is l =
-      by-cases (decLt l 64)
-      (λ h. rw (lt-ltb l 64 h) (sym (digit-undigit (link s l) (link-small l h))))
-      (λ h. rw (le-ltb l 64 (omega arith)) (List·getD-eq-default (s .links) 0 (omega (arith, a .sized .all-links))))
+-- a byte of a state's links is the number of its value
+pub link-is : (t : Table) (s : State) → Accepted t s → (l : ℕ) → link s l ≡ digit (linksOf s l)
+link-is t s a = link-digit t s (a .sized) (a .fits)
 
 -- THE LINKS of states whose values are in order, or grow
 module _ (t : Table) (s z : State) (a : Accepted t s) (b : Accepted t z) where
