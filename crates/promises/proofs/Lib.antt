@@ -5,6 +5,7 @@ pub mod Standing
 pub mod Sources
 pub mod Waits
 pub mod Counts
+pub mod AtOnce
 pub mod Cases
 -- what they rest on
 pub mod Refused

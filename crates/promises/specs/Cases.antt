@@ -1,4 +1,4 @@
--- Document 01, "Examples on each side": the cases marked P, and how sheet X stands and what is left of it after document 02, as one table. A row is a sheet in bytes, what is asked of it, and what the calls answer.
+-- Document 01, "Examples on each side": the cases marked P, and after document 02 how sheet X stands, what is left of it, and the steps of sheet Y in two orders, as one table. A row is a sheet in bytes, what is asked of it, and what the calls answer.
 use Prim.Native.Nat.{ℕ, _-_}
 use mathlib.Core.List.{List, [], _∷_, _++_}
 use lib.ListN.{take}
@@ -78,6 +78,10 @@ X =
     0x05 ∷ 0x01 ∷ 0x06 ∷ 0x00 ∷ 0x04 ∷ 0x02 ∷ 0x04 ∷ 0x00 ∷ 0x01 ∷ 0x0A ∷ 0x03 ∷ 0x00 ∷ 0x00 ∷ 0x00 ∷ 0x00 ∷ 0x00 ∷ 0x02 ∷ 0x00 ∷ 0x01 ∷ 0x05 ∷ 0x00 ∷ 0x00 ∷ 0x00 ∷ 0x00 ∷ 0x03 ∷ 0x02 ∷ 0x07 ∷ 0x00 ∷ 0x01 ∷ 0x0C ∷ 0x08 ∷ 0x00 ∷ 0x00 ∷ 0x00 ∷ 0x00 ∷ 0x00 ∷
     0x00 ∷ 0x00 ∷ 0x00 ∷ 0x00 ∷ 0x02 ∷ 0x00 ∷ 0x00 ∷ 0x00 ∷ 0x05 ∷ 0x00 ∷ 0x01 ∷ 0x00 ∷ []
 
+-- sheet Y: 0 PICK of 1 FLOW and 6 OUT 1 true, 7 NIL; the FLOW of 2 ACT 10, 3 NIL and 4 OUT 0 true, 5 NIL
+abbrev pub Y : List ℕ
+Y = sheetOf (record { evaluation = 1; m = 2; n = 8; k = 0 }) ((4 ∷ 1 ∷ 6 ∷ 0 ∷ []) ++ (5 ∷ 2 ∷ 4 ∷ 0 ∷ []) ++ (1 ∷ 10 ∷ 3 ∷ 0 ∷ []) ++ (0 ∷ 0 ∷ 0 ∷ 0 ∷ []) ++ (2 ∷ 0 ∷ 1 ∷ 5 ∷ []) ++ (0 ∷ 0 ∷ 0 ∷ 0 ∷ []) ++ (2 ∷ 1 ∷ 1 ∷ 7 ∷ []) ++ (0 ∷ 0 ∷ 0 ∷ 0 ∷ [])) []
+
 -- "In the cases on conditions, every link named has an OUT row": 0 OUT 0 true, 1 OUT 1 true, 2 JOIN on the last of k condition rows, 3 NIL; evaluation 0 strict, 1 lazy
 abbrev pub joinOn : (evaluation k : ℕ) → List ℕ → List ℕ
 joinOn evaluation k conditions = sheetOf (record { evaluation = evaluation; m = 2; n = 4; k = k }) ((2 ∷ 0 ∷ 1 ∷ 1 ∷ []) ++ (2 ∷ 1 ∷ 1 ∷ 2 ∷ []) ++ (3 ∷ (k - 1) ∷ 3 ∷ 0 ∷ []) ++ (0 ∷ 0 ∷ 0 ∷ 0 ∷ [])) conditions
@@ -134,6 +138,13 @@ cases =
     of X (counts 1 (4 ∷ [])) (Counts 1 0) ∷
     of X (counts 1 (4 ∷ 6 ∷ [])) (Counts 0 0) ∷
     of X (counts 1 (2 ∷ 6 ∷ 7 ∷ [])) (Counts 0 0) ∷
+    -- request 7: rows 2 and 4 of Y lie on the two sides of the FLOW, and either may be taken first; each decides the PICK above, and link 1 becomes false. Across the PICK it is not so: after 6 neither is listed
+    of Y (after 1 []) (Seen [] (Size 3) (at 2 (Act 10) ∷ at 4 (Set 0 1) ∷ at 6 (Set 1 1) ∷ []) (0 ∷ 0 ∷ [])) ∷
+    of Y (after 1 (2 ∷ [])) (Seen (Act 10 ∷ []) (Size 1) (at 4 (Set 0 1) ∷ []) (0 ∷ 1 ∷ [])) ∷
+    of Y (after 1 (4 ∷ [])) (Seen (Set 0 1 ∷ []) (Size 1) (at 2 (Act 10) ∷ []) (2 ∷ 1 ∷ [])) ∷
+    of Y (after 1 (2 ∷ 4 ∷ [])) (Seen (Act 10 ∷ Set 0 1 ∷ []) (Size 0) [] (2 ∷ 1 ∷ [])) ∷
+    of Y (after 1 (4 ∷ 2 ∷ [])) (Seen (Set 0 1 ∷ Act 10 ∷ []) (Size 0) [] (2 ∷ 1 ∷ [])) ∷
+    of Y (after 1 (6 ∷ [])) (Seen (Set 1 1 ∷ []) (Size 0) [] (1 ∷ 2 ∷ [])) ∷
     -- "lazy OR of links 0 and 1 passes", "strict, it fails with number 5, link 1"
     of (joinOn 1 3 (LINK 0 ++ LINK 1 ++ OR 0 1)) verdict (Verdict Pass) ∷
     of (joinOn 0 3 (LINK 0 ++ LINK 1 ++ OR 0 1)) verdict (Verdict (Fail 2 5 1)) ∷
