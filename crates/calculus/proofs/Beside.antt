@@ -1,4 +1,4 @@
--- Two steps on the two sides of a flow: after either the other is still there as it was, and ready still, and both orders do the same to each link. For every mode at once, and any evaluation that meets R's condition (1). Assumes nothing.
+-- Two steps on the two sides of a flow: after either the other is there as it was, in a valid state ready still, and with single sources both orders do the same to the links. For every mode, and any evaluation that meets R's condition (1). Assumes nothing.
 use Prim.Native.Nat.{ℕ}
 use mathlib.Core.Path.{_≡_, refl, sym, ap, _∙_, subst, fun-ext}
 use mathlib.Core.Bool.{Bool, true, false, cond, _&&_, not}
@@ -75,7 +75,7 @@ still-ready eval mono t u d P v h x y b o = subst (λ (π : Prefix). Ready eval 
 abbrev pub doIf : {A : Type 0} → Bool → (A → A) → A → A
 doIf c f v = cond c (f v) v
 
--- BOTH ORDERS of two steps on one side of a branching: c and e say which of them decides it. `lose` is what a decision does on account of the other side.
+-- BOTH ORDERS of two steps on one side of a branching: c and e say which of them decides it. `lose` is what the decision adds: to the links, that those of the other side become false; to the marks, that of the pick.
 -- It comes with the first step that decides, and may come before or after the second step, f in the one order and g in the other.
 pub orders : {A : Type 0} (c e : Bool) (lose f g : A → A) {v w : A} → ((x : A) → f (lose x) ≡ lose (f x)) → ((x : A) → g (lose x) ≡ lose (g x)) → f v ≡ g w → doIf (not c && e) lose (f (doIf c lose v)) ≡ doIf (not e && c) lose (g (doIf e lose w))
 orders true true lose f g {v} {w} p q h = p v ∙ (ap lose h ∙ sym (q w))

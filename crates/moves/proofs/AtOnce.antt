@@ -23,7 +23,7 @@ use Rattle.moves.specs.Steps.{modeOf, marksOf, linksOf, Sized, nodes, re
 use Rattle.moves.specs.Above.{OnTwoSides}
 use Rattle.moves.specs.Fits.{Fits}
 use Rattle.moves.proofs.StateAfter.{Is}
-use Rattle.moves.proofs.Moves.{has-turn, turn-parts, Does, StepAt, left-distinct, left-at, links-at, step-place, place-step}
+use Rattle.moves.proofs.Moves.{has-turn, turn-parts, Does, StepPlace, left-distinct, left-at, links-at, step-place, place-step}
 use Rattle.moves.proofs.Fits.{counts-said, fits-valid, link-digit, fits-step}
 
 -- fitting states of one mode, with the same marks and links, are the same: a link's value tells its byte, and the counts are right
@@ -72,7 +72,7 @@ module _ (t : Table) (w : WellFormed t) where
     d = falsifies (modeOf (s .mode))
 
     -- the step of row i, and then that of row j
-    module _ (i j : ℕ) (a : StepAt t s i) (c : StepAt t s j) (b : Beside P (a .place) (c .place)) where
+    module _ (i j : ℕ) (a : StepPlace t s i) (c : StepPlace t s j) (b : Beside P (a .place) (c .place)) where
       abbrev z : State
       z = steppedOf t s i
 
@@ -106,7 +106,7 @@ module _ (t : Table) (w : WellFormed t) where
       both-fit = (second .stepped .sized, fits-step t w source z (first .sized) j (second .there) (fits-step t w source s size i (a .does .there) fits), second .stepped .same-mode ∙ first .same-mode)
 
     -- the steps of two rows that stand below a FLOW, on two sides, are at places on the two sides of a flow
-    places-beside : (f i j : ℕ) → OnTwoSides t f i j → (a : StepAt t s i) (c : StepAt t s j) → Beside P (a .place) (c .place)
+    places-beside : (f i j : ℕ) → OnTwoSides t f i j → (a : StepPlace t s i) (c : StepPlace t s j) → Beside P (a .place) (c .place)
     places-beside f i j o a c =
         flow-sides (nodes t) (t .n) (w .tree .kids) (w .tree .once) (marksOf s) i j f (o .left) (o .right) (o .one .in-sheet) (o .is-flow)
         (o .one .side) (o .other .side) (o .one .child) (o .other .child) (o .two-sides) (o .one .at-side) (o .other .at-side) (o .one .holds) (o .other .holds)

@@ -97,7 +97,7 @@ fits-valid t w source s f = record {
   clear = λ k e. zero-unset (s .links) k (rows-clear (t .terms) (t .n) (w .tree .kids) (w .tree .once) (marksOf s) (s .links) (λ i h. f .clear-fit i (omega arith) h) k (w .tree .some-row) e);
 }
 
--- a fitting state's links are 0 to 2, so that each of its bytes is the number of its value; past 64 there is none
+-- a fitting state's links are 0 to 2, so that each of its bytes is the number of its value; from 64 on there is no byte, and 0 is read
 fits-small : (t : Table) (s : State) → Fits t s → Small s
 unfolding linkOk
 fits-small t s f l h = at (ltb l (t .m)) (f .links-fit l (omega arith) h)

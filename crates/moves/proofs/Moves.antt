@@ -119,7 +119,7 @@ pub record Does (t : Table) (s : State) (r : ℕ) (u : Turn) (P : Process) (x : 
   pub stepped : Is s u (steppedOf t s r) P x
 
 -- the step of row r: its turn at a place of what is left, which is allowed and ready there
-pub record StepAt (t : Table) (s : State) (r : ℕ) : Type 0 where
+pub record StepPlace (t : Table) (s : State) (r : ℕ) : Type 0 where
   pub turn : Turn
   pub place : Place (leftIn t s)
   pub its-row : row (leftIn t s) place ≡ r
@@ -149,7 +149,8 @@ module _ (t : Table) (w : WellFormed t) (s : State) (size : Sized s) where
   pub links-at : (u : Turn) (x : Place P) (z : State) → Is s u z P x → linksOf z ≡ put-on (effect u (falsifies m) P x) (linksOf s)
   links-at u x z i = fun-ext (i .links-are)
 
-  pub step-place : (r : ℕ) → hasStep t s r ≡ true → StepAt t s r
+  -- the step of a row, at its place
+  pub step-place : (r : ℕ) → hasStep t s r ≡ true → StepPlace t s r
   step-place r e =
       let (u, q) = has-turn t s r e in
       let f = turn-fronts t s r u q in

@@ -1,8 +1,8 @@
--- A FITTING STATE IS NEEDED for what `AtOnce` says: in a state that breaks (d) the one of two steps on the two sides of a FLOW may alter the kind of the other. By computing. Assumes nothing.
+-- A FITTING STATE IS NEEDED for what `AtOnce` says: in a state that breaks (d) one of two steps on the two sides of a FLOW may alter the kind of the other. By computing. Assumes nothing.
 use mathlib.Core.Path.{_≡_, refl, sym, _∙_}
 use mathlib.Core.Bool.{true, false, true≢false}
 use mathlib.Core.List.{[], _∷_}
-use Prim.Native.Nat.{ℕ}
+use Prim.Native.Nat.{ℕ, _≤_}
 use native.Mathlib.Omega.{arith}
 use Rattle.laws.specs.Tests.{or}
 use Rattle.laws.specs.Down.{seen, down-by, down}
@@ -26,9 +26,9 @@ use Rattle.evaluate.specs.Values.{linksIn}
 use Rattle.state.specs.declared.State.{State}
 use Rattle.state.specs.declared.StepKind.the-variants.{Open, Clean}
 use Rattle.state.specs.State.{freshOf, setOf}
-use Rattle.moves.specs.Steps.{modeOf, Sized, turnBy, turnAt, kindOf, kindBy, kindTurned, kindAt, hasStep, isWaitingPick, decidedOf, climbBy, climbed, ownLink, ownOf, takenOf, counted, steppedBy, steppedOf}
+use Rattle.moves.specs.Steps.{modeOf, marksOf, Sized, turnBy, turnAt, kindOf, kindBy, kindTurned, kindAt, hasStep, isWaitingPick, decidedOf, climbBy, climbed, ownLink, ownOf, takenOf, counted, steppedBy, steppedOf}
 use Rattle.moves.specs.Above.{OnTwoSides}
-use Rattle.moves.specs.Fits.{suitsPrefix, suitsBranch, suits, markOk, linkOk, held, waitOk, keeps, live, clearPrefix, clearRow, clearOk, fitChecks}
+use Rattle.moves.specs.Fits.{suitsPrefix, suitsBranch, suits, markOk, linkOk, held, waitOk, keeps, live, clearPrefix, clearRow, clearOk, marksFit, linksFit, waitsFit}
 use Rattle.moves.proofs.Moves.{not-clean}
 use Rattle.moves.proofs.AtOnce.{Still}
 
@@ -51,18 +51,20 @@ sides = record {
   two-sides = λ e. true≢false (sym e);
 }
 
--- the table is accepted, and of the state's checks (d) is the first that fails, at row 1; both rows have a step, and the JOIN is open before the OUT, and clean after it
-pub unfit-alters : (refusalOf flowTable .number ≡ 0) × (checked refuse (refuse 0 0) (fitChecks flowTable setBefore) ≡ refuse 10 1)
+-- the table is accepted; (a), (b) and (c) hold, and (d) does not, at row 1, while the counts are right by `counted`; both rows have a step, and the JOIN is open before the OUT, and clean after it
+pub unfit-alters : (refusalOf flowTable .number ≡ 0)
+    × (checked refuse (refuse 0 0) (marksFit (flowTable .terms) 5 (modeOf 1) (marksOf setBefore) ∷ (linksFit 1 (setBefore .links) ∷ (waitsFit (flowTable .terms) 5 (marksOf setBefore) ∷ []))) ≡ refuse 0 0)
+    × (clearOk (flowTable .terms) (marksOf setBefore) (setBefore .links) 1 ≡ false)
     × (hasStep flowTable setBefore 1 ≡ true) × (hasStep flowTable setBefore 3 ≡ true) × (kindAt flowTable setBefore 3 ≡ Open) × (kindAt flowTable (steppedOf flowTable setBefore 1) 3 ≡ Clean)
 unfolding or below up-by up lowest sum count placeOf checked listed own cleans joinTurn turnOf conditionBy condition reachedFrom lazy value digit undigit linksOf
     firstOf secondOf isJoinPrefix isJoin conditionOfPrefix conditionOf isSource stand open-branches names parentOf waitsBy waiting waitingStep opens leads inheritedBy inherited reached inFront
     rowBy rowAt conditionRowBy conditionRowAt lazyOf evaluationOf sized settled conditionRule conditionOk childOk termRule termOk same namings timesNamed sources joinOk wants unsourced fewLinks refusalOf linksIn
     modeOf turnBy turnAt kindOf kindBy kindTurned kindAt hasStep isWaitingPick decidedOf climbBy climbed ownLink ownOf takenOf steppedBy steppedOf suitsPrefix suitsBranch suits markOk linkOk held waitOk keeps live clearPrefix clearRow clearOk
-unfit-alters = (refl, refl, refl, refl, refl, refl)
+unfit-alters = (refl, refl, refl, refl, refl, refl, refl)
 
--- so what `AtOnce` says of fitting states does not hold of all
-pub fitting-needed : ((t : Table) → refusalOf t .number ≡ 0 → (s : State) → Sized s → (f i j : ℕ) → OnTwoSides t f i j → hasStep t s i ≡ true → hasStep t s j ≡ true → Still t s i j) → ⊥
+-- so what `still-there` says of fitting states does not hold of all
+pub fitting-needed : ((t : Table) → refusalOf t .number ≡ 0 → (s : State) → s .mode ≤ 1 → Sized s → (f i j : ℕ) → OnTwoSides t f i j → hasStep t s i ≡ true → hasStep t s j ≡ true → Still t s i j) → ⊥
 unfolding kindOf
 fitting-needed all =
-    let (accepted, _, one, other, before, after) = unfit-alters in
-    not-clean (join 0) (sym before ∙ (sym (all flowTable accepted setBefore (record { all-marks = refl; all-links = refl }) 0 1 3 sides one other .1) ∙ after))
+    let (accepted, _, _, one, other, before, after) = unfit-alters in
+    not-clean (join 0) (sym before ∙ (sym (all flowTable accepted setBefore (omega arith) (record { all-marks = refl; all-links = refl }) 0 1 3 sides one other .1) ∙ after))

@@ -1,4 +1,4 @@
--- Two steps on the two sides of a flow, by rows: both orders leave the same marks, and the places of two rows that stand below a FLOW row on two sides lie on the two sides of a flow. Assumes nothing.
+-- Two steps on the two sides of a flow, by rows: where no row stands twice, both orders leave the same marks, and the places of two rows that stand below a FLOW row on two sides lie on the two sides of a flow. Assumes nothing.
 use Prim.Native.Nat.{ℕ, _<_}
 use mathlib.Core.Path.{_≡_, refl, sym, _∙_, ap, subst, fun-ext}
 use mathlib.Core.Bool.{Bool, true, false, cond, _&&_, not}
