@@ -22,7 +22,7 @@ const TABLES: [[[u8; 3]; 3]; 4] = [
 pub fn is_lazy(evaluation: u8) -> bool
     ensures { λ r. ⌜ r ≡ lazyOf evaluation ⌝ }
 {
-    evaluation == 1
+    (evaluation == 1) | (evaluation == 3)
 }
 
 // A byte as a value: 0 unset, 1 false, any other true.

@@ -1,7 +1,7 @@
 -- The links that JOIN rows want, and check 13 from them. Assumes nothing.
 use Prim.Native.Nat.{ℕ, _+_, _*_, _<_}
 use mathlib.Core.Path.{_≡_, refl, sym, _∙_}
-use mathlib.Core.Bool.{Bool, true, false, cond}
+use mathlib.Core.Bool.{Bool, true, false, cond, not}
 use mathlib.Core.List.{List}
 use mathlib.Core.Logic.{by-cases}
 use native.Mathlib.Omega.{arith}
@@ -13,7 +13,7 @@ use lib.ListN.{getD}
 use borrow.Author.Tests.{eqb-true, le-leb, leb-true}
 use Rattle.laws.specs.Lowest.{lowest}
 use Rattle.laws.specs.Checks.{placeOf}
-use Rattle.laws.proofs.Tests.{both-ways, cond-same}
+use Rattle.laws.proofs.Tests.{and-r, both-ways, cond-same}
 use Rattle.laws.proofs.Up.{filled-at}
 use Rattle.laws.proofs.Lowest.{lowest-same}
 use Rattle.laws.proofs.Checks.{place-end}
@@ -21,7 +21,7 @@ use Rattle.conditions.specs.Conditions.{condition}
 use Rattle.reach.specs.Masks.{hasBit, within, maskAt}
 use Rattle.reach.proofs.Subsets.{within-has, within-all, within-first, within-second}
 use Rattle.reach.proofs.Links.{mask-reached}
-use Rattle.sheet.specs.Table.{Table, conditionRowAt}
+use Rattle.sheet.specs.Table.{Table, conditionRowAt, isCompacted}
 use Rattle.sheet.specs.Rules.{sources, wants, unsourced, sourced}
 use Rattle.sheet.proofs.Rows.{join-below, join-asked}
 use Rattle.sheet.proofs.Accepted.{links-below, none-unsourced}
@@ -52,14 +52,14 @@ module _ (ts masks : List ℕ) (i links : ℕ) (f : Wanted ts masks i links) whe
   wanted-join e = wanted-next _ (within-first links _) (rw e (within-second links _))
 
 -- 13 of a condition row, by its mask and the links that have a source
-module _ (t : Table) (masks : List ℕ) (g : AfterConditions t masks) (q : ℕ) (low : q < t .k) (linked : ℕ) (has : (l : ℕ) → l < 64 → hasBit linked l ≡ leb 1 (sources (t .terms) (t .n) l)) where
+module _ (t : Table) (fresh : isCompacted (t .evaluation) ≡ false) (masks : List ℕ) (g : AfterConditions t masks) (q : ℕ) (low : q < t .k) (linked : ℕ) (has : (l : ℕ) → l < 64 → hasBit linked l ≡ leb 1 (sources (t .terms) (t .n) l)) where
   mask-wants : (l : ℕ) → l < 64 → hasBit (getD masks q 0) l ≡ wants t q l
   unfolding wants
-  mask-wants l h = rw (filled-at 0 (maskAt (t .conditions)) (t .k) masks q (g .masked) low) (mask-reached (condition (conditionRowAt (t .conditions)) q) l h)
+  mask-wants l h = rw (fresh, filled-at 0 (maskAt (t .conditions)) (t .k) masks q (g .masked) low) (mask-reached (condition (conditionRowAt (t .conditions)) q) l h)
 
   wants-below : (l : ℕ) → wants t q l ≡ true → l < t .m
   unfolding wants
-  wants-below l w = links-below (t .m) (t .k) (t .conditions) (g .sound) q l low w
+  wants-below l w = links-below (t .m) (t .k) (t .conditions) (g .sound) q l low (and-r (not (isCompacted (t .evaluation))) _ w)
 
   mask-sourced : within (getD masks q 0) linked ≡ eqb (unsourced t q) 0
   mask-sourced =
@@ -67,11 +67,11 @@ module _ (t : Table) (masks : List ℕ) (g : AfterConditions t masks) (q : ℕ) 
       (λ e. none-unsourced t q .1 (λ l h w. let small : l < 64 = omega (arith, g .few-links) in leb-true 1 _ (sym (has l small) ∙ within-has _ _ e l small (mask-wants l small ∙ w))))
       (λ e. within-all _ _ (λ l h p. let w : wants t q l ≡ true = sym (mask-wants l h) ∙ p in has l h ∙ le-leb 1 _ (none-unsourced t q .0 e l (wants-below l w) w)))
 
-module _ (t : Table) (masks : List ℕ) (s : Notes) (r : AfterRows t masks s) where
+module _ (t : Table) (fresh : isCompacted (t .evaluation) ≡ false) (masks : List ℕ) (s : Notes) (r : AfterRows t masks s) where
   row-rule : (j : ℕ) → j < t .n → rowWithin (t .terms) masks (s .linked) j ≡ sourced t .rule j
   unfolding rowWithin wantsWithin Sound
   row-rule j h =
-      cond-same (eqb (getD (t .terms) (j * 4) 0) 3) true (λ e. mask-sourced t masks (r .conditions) _ (join-below (t .terms) (t .m) (t .n) (t .k) j (r .sound j h) (eqb-true _ 3 e)) (s .linked) (r .linked)) ∙
+      cond-same (eqb (getD (t .terms) (j * 4) 0) 3) true (λ e. mask-sourced t fresh masks (r .conditions) _ (join-below (t .terms) (t .m) (t .n) (t .k) j (r .sound j h) (eqb-true _ 3 e)) (s .linked) (r .linked)) ∙
       sym (join-asked (λ q. eqb (unsourced t q) 0) (t .terms) j)
 
   -- 13 holds where each link that is wanted has a source

@@ -5,7 +5,7 @@ ghost use Prim.Native.Nat.{_+_, _*_, _<_, _≤_};
 ghost use lib.ListN.{length, getD};
 ghost use Rattle.laws.specs.Up.{Filled};
 ghost use Rattle.laws.specs.Checks.{placeOf, checked};
-ghost use Rattle.sheet.specs.Table.{tableOf, rowBy};
+ghost use Rattle.sheet.specs.Table.{tableOf, rowBy, isCompacted};
 ghost use Rattle.sheet.specs.Rules.{sized, conditionRule, conditionOk, childOk, termRule, conditions, terms, sourced, narrow, from3, from4, from5, from7, from13, from8, refuse, refusalOf};
 ghost use Rattle.reach.specs.Masks.{maskAt};
 ghost use Rattle.judge.specs.Judge.{Lent, AfterConditions, Sound, bumped, Few, OneMore, Children, Misnamed, sourceNoted, wideNoted, joinNoted, linksNoted, wantsWithin, AfterRows};
@@ -212,6 +212,13 @@ fn wants_within(kind: u8, a: u8, masks: &[u64; 256], links: u64) -> bool
     }
 }
 
+// The evaluations of a compacted sheet, which may read a link whose source is spent.
+fn is_compacted(evaluation: u8) -> bool
+    ensures { λ r. ⌜ r ≡ isCompacted evaluation ⌝ }
+{
+    (evaluation == 2) | (evaluation == 3)
+}
+
 // The lowest JOIN row that wants a link without a source. The rows are looked at again only if there is such a link.
 fn unsourced_join(h: Head, ts: &[u8], cs: &[u8], masks: &[u64; 256], notes: Notes) -> usize
     requires { ⌜ AfterRows (tableOf h (now ts) (now cs)) (now masks) notes ⌝ }
@@ -219,6 +226,9 @@ fn unsourced_join(h: Head, ts: &[u8], cs: &[u8], masks: &[u64; 256], notes: Note
 {
     let n = h.n;
     let linked = notes.linked;
+    if is_compacted(h.evaluation) {
+        return n;
+    }
     if reach::within(notes.wanted, linked) {
         return n;
     }
@@ -364,7 +374,7 @@ fn judge_settings(h: Head, ts: &[u8], cs: &[u8]) -> Refusal
     ensures { λ r. ⌜ r ≡ checked refuse (refuse 0 0) (from3 (tableOf h (now (ts .entry)) (now (cs .entry)))) ⌝ }
 {
     let e = h.evaluation;
-    if 1 < e {
+    if 3 < e {
         return Refusal {
             number: 3,
             place: 16,

@@ -20,7 +20,7 @@ use Rattle.conditions.specs.Numbers.{digit, undigit, linksOf}
 use Rattle.steps.specs.Rows.{termBy, term, firstOf, secondOf, Child, isJoinPrefix, isJoin, conditionOfPrefix, conditionOf, isSource}
 use Rattle.steps.specs.Marks.{stand, open-branches}
 use Rattle.steps.specs.InFront.{names, parentOf, waitsBy, waiting, waitingStep, opens, leads, inheritedBy, inherited, reached, inFront}
-use Rattle.sheet.specs.Table.{Table, rowBy, rowAt, conditionRowBy, conditionRowAt, lazyOf, evaluationOf}
+use Rattle.sheet.specs.Table.{Table, rowBy, rowAt, conditionRowBy, conditionRowAt, lazyOf, isCompacted, evaluationOf}
 use Rattle.sheet.specs.Rules.{refuse, refusalOf, sized, settled, conditionRule, conditionOk, childOk, termRule, termOk, same, namings, timesNamed, sources, joinOk, wants, unsourced, fewLinks}
 use Rattle.evaluate.specs.Values.{linksIn}
 use Rattle.state.specs.declared.State.{State}
@@ -58,7 +58,7 @@ pub unfit-alters : (refusalOf flowTable .number ≡ 0)
     × (hasStep flowTable setBefore 1 ≡ true) × (hasStep flowTable setBefore 3 ≡ true) × (kindAt flowTable setBefore 3 ≡ Open) × (kindAt flowTable (steppedOf flowTable setBefore 1) 3 ≡ Clean)
 unfolding or below up-by up lowest sum count placeOf checked listed own cleans joinTurn turnOf conditionBy condition reachedFrom lazy value digit undigit linksOf
     firstOf secondOf isJoinPrefix isJoin conditionOfPrefix conditionOf isSource stand open-branches names parentOf waitsBy waiting waitingStep opens leads inheritedBy inherited reached inFront
-    rowBy rowAt conditionRowBy conditionRowAt lazyOf evaluationOf sized settled conditionRule conditionOk childOk termRule termOk same namings timesNamed sources joinOk wants unsourced fewLinks refusalOf linksIn
+    rowBy rowAt conditionRowBy conditionRowAt lazyOf isCompacted evaluationOf sized settled conditionRule conditionOk childOk termRule termOk same namings timesNamed sources joinOk wants unsourced fewLinks refusalOf linksIn
     modeOf turnBy turnAt kindOf kindBy kindTurned kindAt hasStep isWaitingPick decidedOf climbBy climbed ownLink ownOf takenOf steppedBy steppedOf suitsPrefix suitsBranch suits markOk linkOk held waitOk keeps live clearPrefix clearRow clearOk
 unfit-alters = (refl, refl, refl, refl, refl, refl, refl)
 

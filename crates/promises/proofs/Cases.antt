@@ -19,7 +19,7 @@ use Rattle.conditions.specs.Failure.{flips, offender, quiet, number, fails}
 use Rattle.steps.specs.Rows.{termBy, term, firstOf, secondOf, isJoinPrefix, isJoin, conditionOfPrefix, conditionOf, isSource}
 use Rattle.steps.specs.Marks.{stand, open-branches, remainder}
 use Rattle.steps.specs.InFront.{names, parentOf, rightOf, waitsBy, undecided, waiting, waitingStep, passedBy, opens, leads, inheritedBy, inherited, reached, inFront}
-use Rattle.sheet.specs.Table.{rowBy, rowAt, operatorOf, conditionRowBy, conditionRowAt, lazyOf, evaluationOf}
+use Rattle.sheet.specs.Table.{rowBy, rowAt, operatorOf, conditionRowBy, conditionRowAt, lazyOf, isCompacted, evaluationOf}
 use Rattle.sheet.specs.Rules.{sized, settled, conditionRule, conditionOk, childOk, termRule, termOk, same, namings, timesNamed, sources, joinOk, wants, unsourced, fewLinks}
 use Rattle.sheet.specs.Sheet.{numberAt, front, sheetOf, headOf, termsOf, conditionsOf, entryOk, inFours, contentsOk}
 use Rattle.codec.specs.Answers.{readOf, partOf}
@@ -41,7 +41,7 @@ at-each f g [] e x m = absurd (List·Memᴰ·not-nil m)
 at-each f g (y ∷ l) e x m = ⊎-elim (λ q. ap f q ∙ ((let h : f y ≡ g y = cc in h) ∙ ap g (sym q))) (at-each f g l (cc) x) (List·Memᴰ·cases-cons m)
 
 computed : map (λ c. answerTo (tableRead (c .sheet)) (c .question)) cases ≡ map (λ c. c .answer) cases
-unfolding or seen down-by down below up-by up lowest sum count placeOf checked listed written own sets falsifies cleans joinTurn turnOf table conditionBy condition reachedFrom lazy allSet strict value digit undigit linksOf assign flips offender quiet number fails termBy term firstOf secondOf isSource stand open-branches remainder names parentOf rightOf waitsBy undecided waiting waitingStep passedBy opens leads inheritedBy inherited reached inFront rowBy rowAt operatorOf conditionRowBy conditionRowAt lazyOf evaluationOf sized settled conditionRule conditionOk childOk termRule termOk same namings timesNamed sources joinOk wants unsourced fewLinks numberAt front sheetOf headOf termsOf conditionsOf entryOk inFours contentsOk readOf partOf linksIn modeOf turnBy turnAt kindOf kindBy kindTurned kindAt hasStep listedOf falsifyFrom falsified isWaitingPick decidedOf climbBy climbed ownLink ownOf takenOf droppedOf actsOf unsetOf steppedBy steppedOf suitsPrefix suitsBranch suits markOk linkOk held waitOk keepsBy keeps live clearPrefix clearRow clearOk countsOk takenAnswer failsAt failureAt linkAt isJoinPrefix isJoin conditionOfPrefix conditionOf sound failing failAt verdictOf given verdictAnswer startAnswer joinInFront joinsOf waitingBy waitingOf lacks awaited awaitedAt worthOf awaitedOf awaitsOf standingBy standingOf listAnswer listBuffer standingAnswer standingBuffer waitsAnswer waitsBuffer kindAnswer stepAnswer listedIn waitingIn awaitedIn tableRead answerTo
+unfolding or seen down-by down below up-by up lowest sum count placeOf checked listed written own sets falsifies cleans joinTurn turnOf table conditionBy condition reachedFrom lazy allSet strict value digit undigit linksOf assign flips offender quiet number fails termBy term firstOf secondOf isSource stand open-branches remainder names parentOf rightOf waitsBy undecided waiting waitingStep passedBy opens leads inheritedBy inherited reached inFront rowBy rowAt operatorOf conditionRowBy conditionRowAt lazyOf isCompacted evaluationOf sized settled conditionRule conditionOk childOk termRule termOk same namings timesNamed sources joinOk wants unsourced fewLinks numberAt front sheetOf headOf termsOf conditionsOf entryOk inFours contentsOk readOf partOf linksIn modeOf turnBy turnAt kindOf kindBy kindTurned kindAt hasStep listedOf falsifyFrom falsified isWaitingPick decidedOf climbBy climbed ownLink ownOf takenOf droppedOf actsOf unsetOf steppedBy steppedOf suitsPrefix suitsBranch suits markOk linkOk held waitOk keepsBy keeps live clearPrefix clearRow clearOk countsOk takenAnswer failsAt failureAt linkAt isJoinPrefix isJoin conditionOfPrefix conditionOf sound failing failAt verdictOf given verdictAnswer startAnswer joinInFront joinsOf waitingBy waitingOf lacks awaited awaitedAt worthOf awaitedOf awaitsOf standingBy standingOf listAnswer listBuffer standingAnswer standingBuffer waitsAnswer waitsBuffer kindAnswer stepAnswer listedIn waitingIn awaitedIn tableRead answerTo
 computed = refl
 
 pub every-case : (c : Case) → List·Memᴰ c cases → answerTo (tableRead (c .sheet)) (c .question) ≡ c .answer

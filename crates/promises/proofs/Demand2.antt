@@ -174,12 +174,12 @@ module _ (t : Table) (q : ℕ) (v : Links) where
   C = condition (conditionRowAt (t .conditions)) q
 
   -- "Strict evaluation gives unset if any link reached from the condition is unset, else the lazy value."
-  pub strict-value : t .evaluation ≡ 0 → ((l : ℕ) → reached C l ≡ true → v l ≡ Unset → evalIn t q v ≡ Unset) × (((l : ℕ) → reached C l ≡ true → v l ≡ Unset → ⊥) → evalIn t q v ≡ lazy C v)
-  unfolding evaluationOf lazyOf value
+  pub strict-value : lazyOf (t .evaluation) ≡ false → ((l : ℕ) → reached C l ≡ true → v l ≡ Unset → evalIn t q v ≡ Unset) × (((l : ℕ) → reached C l ≡ true → v l ≡ Unset → ⊥) → evalIn t q v ≡ lazy C v)
+  unfolding evaluationOf value
   strict-value e = rw e (strict-unset C v, strict-lazy C v)
 
-  pub lazy-value : t .evaluation ≡ 1 → evalIn t q v ≡ lazy C v
-  unfolding evaluationOf lazyOf value
+  pub lazy-value : lazyOf (t .evaluation) ≡ true → evalIn t q v ≡ lazy C v
+  unfolding evaluationOf value
   lazy-value e = rw e refl
 
 -- R's condition (1), under both evaluations

@@ -81,6 +81,7 @@ fn main() {
     try_file(b"request 1", b"level-1.cases", Kind::Program);
     try_file(b"request 3", b"level-3.cases", Kind::Program);
     try_file(b"request 5", b"level-5.cases", Kind::Program);
+    try_file(b"request 8", b"level-8.cases", Kind::Program);
     try_file(b"states", b"states-base.cases", Kind::States);
     try_file(b"tables", b"tables-base.cases", Kind::Tables);
     try_file(b"standing", b"standing-1.cases", Kind::Standing);

@@ -172,7 +172,8 @@ fn sheets() {
     changed(b"conditions at 23", 12, 23);
     changed(b"conditions past the end", 14, 4);
     changed(b"evaluation 1", 16, 1);
-    changed(b"evaluation 2", 16, 2);
+    changed(b"evaluation 3", 16, 3);
+    changed(b"evaluation 4", 16, 4);
     changed(b"64 links", 17, 64);
     changed(b"65 links", 17, 65);
 }
