@@ -115,8 +115,8 @@ module _ (n : ℕ) (ts ts′ : List ℕ) (same : (i : ℕ) → i < n → rowAt t
   unfolding droppedOf
   dropped-same s r h = rw (falsified-same (marksOf s) (firstOf (rowAt ts r)) _, same r h) refl
 
--- the counts are the same
-cut-left : (t : Table) (s : State) → leftIn t s ≡ leftIn (cut t) s
+-- what is left is the same, and so are the counts
+pub cut-left : (t : Table) (s : State) → leftIn t s ≡ leftIn (cut t) s
 cut-left t s = remainder-same (t .n) (t .terms) (cut t .terms) (λ i h. sym (row-same (t .n) (t .terms) i h)) (marksOf s) 0
 
 pub cut-counted : (t : Table) (s : State) → counted t s ≡ counted (cut t) s

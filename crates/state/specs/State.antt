@@ -28,3 +28,7 @@ setOf s link value = record { mode = s .mode; marks = s .marks; links = set (s .
 -- Document 02, request 6: "The state gains two numbers"
 abbrev pub withCounts : State → ℕ → ℕ → State
 withCounts s acts unset = record { mode = s .mode; marks = s .marks; links = s .links; acts = acts; unset = unset }
+
+-- Document 02, request 8: "a state of the same mode, waiting marks and the old link values"
+abbrev pub restartOf : State → State
+restartOf s = record { mode = s .mode; marks = replicate 256 0; links = s .links; acts = s .acts; unset = s .unset }

@@ -2,7 +2,7 @@
 ghost use mathlib.Core.Path.{_≡_};
 ghost use Prim.Native.Nat.{_<_};
 ghost use lib.ListN.{replicate};
-ghost use Rattle.state.specs.State.{freshOf, passOf, dropOf, decideOf, setOf, withCounts};
+ghost use Rattle.state.specs.State.{freshOf, passOf, dropOf, decideOf, setOf, withCounts, restartOf};
 
 pub struct State {
     pub mode: u8,
@@ -71,6 +71,14 @@ impl State {
     {
         self.acts = acts;
         self.unset = unset;
+        self
+    }
+
+    // Every mark waits.
+    pub fn restart(mut self) -> State
+        ensures { λ r. ⌜ r ≡ restartOf self ⌝ }
+    {
+        self.marks = [0; 256];
         self
     }
 

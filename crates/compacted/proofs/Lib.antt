@@ -1,0 +1,3 @@
+pub mod Compacted
+pub mod Matched
+pub mod Beyond
