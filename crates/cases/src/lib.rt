@@ -199,26 +199,46 @@ pub fn same_state(a: State, b: State) -> bool {
     same_numbers(a, b) & check::same(&am, &bm) & same_links(a, b)
 }
 
+// The state that has to come back: that of the case; where it is refused, the one that was handed in.
+pub fn state_after(file: i32, number: u8, s: State) -> State {
+    if number != 0 {
+        return s;
+    }
+    read_state(file)
+}
+
 // A lent buffer, beside the bytes of the case.
-fn buffer_agrees(file: i32, out: &[u8]) -> bool {
+pub fn buffer_agrees(file: i32, out: &[u8]) -> bool {
     let mut expected = [0; SPACE];
     let length = read_text(file, out.len(), &mut expected);
     check::same(&expected[..length], out)
 }
 
-// Number, place, size and buffer, beside those of the case; all are there on refusal too.
-fn answered(file: i32, number: u8, place: usize, size: usize, out: &[u8]) -> bool {
-    let n = byte(file);
-    let p = four(file);
-    let s = four(file);
-    let buffer = buffer_agrees(file, out);
-    (n == number) & (p == place) & (s == size) & buffer
+// Number, place and size; all are there on refusal too.
+pub fn read_size(file: i32) -> Told {
+    let number = byte(file);
+    let place = four(file);
+    let x = four(file);
+    Told {
+        number,
+        place,
+        word: 0,
+        x,
+        y: 0,
+    }
 }
 
-// The answer of a call that fills a lent buffer, with the buffer as the call left it.
-pub fn size_agrees(file: i32, answer: SizeAnswer, out: &[u8]) -> bool {
+// The answer of a call that fills a lent buffer: the size is its value.
+pub fn told_size(answer: SizeAnswer) -> Told {
     match answer {
-        SizeAnswer::Size(size) => answered(file, 0, 0, size, out),
-        SizeAnswer::Refused(number, place) => answered(file, number, place, 0, out),
+        SizeAnswer::Size(size) => told_word(0, size, 0),
+        SizeAnswer::Refused(number, place) => told_refused(number, place),
     }
+}
+
+// Such an answer, with the buffer as the call left it.
+pub fn size_agrees(file: i32, answer: SizeAnswer, out: &[u8]) -> bool {
+    let expected = read_size(file);
+    let same = buffer_agrees(file, out);
+    same_told(told_size(answer), expected) & same
 }

@@ -1,5 +1,5 @@
 -- What reading, handing on and writing answer, and what they leave in a lent buffer.
-use Prim.Native.Nat.{ℕ, _<_, _≤_}
+use Prim.Native.Nat.{ℕ, _*_, _<_, _≤_}
 use mathlib.Core.List.{List, [], _∷_, _++_}
 use lib.ListN.{getD, length}
 use Rattle.laws.specs.Checks.{Check, Holds, checked}
@@ -40,3 +40,11 @@ writtenOf h ts cs out = checked (λ number place. out) (written (sheetOf h ts cs
 pub record Framed (s : List ℕ) : Type 0 where
   pub long : 22 ≤ length s
   pub sound : Holds (contents s)
+
+-- the settings and numbers of a table are in their ranges, and its rows are lent
+pub record InRange (h : Head) (ts cs : List ℕ) : Type 0 where
+  pub few-links : h .m ≤ 64
+  pub few-terms : h .n ≤ 256
+  pub few-conditions : h .k ≤ 256
+  pub terms-lent : 4 * h .n ≤ length ts
+  pub conditions-lent : 4 * h .k ≤ length cs

@@ -4,9 +4,10 @@ ghost use Prim.Native.Nat.{_+_, _*_, _<_, _≤_};
 ghost use lib.ListN.{length};
 ghost use lib.Seq.{paste};
 ghost use Rattle.laws.specs.Checks.{placeOf};
+ghost use Rattle.laws.specs.Listed.{written};
 ghost use Rattle.sheet.specs.Rules.{refusalOf};
-ghost use Rattle.sheet.specs.Sheet.{numberAt, entryOk, inFours, contents, contentsOk, headOf, settingsOf, termsOf, conditionsOf, tableIn, front};
-ghost use Rattle.codec.specs.Answers.{readOf, partOf, writeOf, writtenOf, Framed};
+ghost use Rattle.sheet.specs.Sheet.{numberAt, entryOk, inFours, contents, contentsOk, headOf, settingsOf, termsOf, conditionsOf, tableIn, front, sizeOf, sheetOf};
+ghost use Rattle.codec.specs.Answers.{readOf, partOf, writeOf, writtenOf, Framed, InRange};
 use sheet::Head;
 use sheet::Refusal;
 
@@ -227,6 +228,24 @@ fn copy(out: &mut [u8], at: usize, from: &[u8], count: usize)
     }
 }
 
+// The bytes of a table to a lent buffer, and how many; a buffer that is too short is left as it is. Nothing is judged.
+pub fn lay(h: Head, ts: &[u8], cs: &[u8], out: &mut [u8]) -> usize
+    requires { ⌜ InRange h (now ts) (now cs) ⌝ }
+    ensures { λ r. ⌜ (r ≡ sizeOf h) × (now (out .exit) ≡ written (sheetOf h (now (ts .entry)) (now (cs .entry))) (now (out .entry))) ⌝ }
+{
+    let t = 4 * h.n;
+    let c = 4 * h.k;
+    let size = 18 + (t + c);
+    if out.len() < size {
+        return size;
+    }
+    let first = front(h);
+    copy(out, 0, &first, 18);
+    copy(out, 18, ts, t);
+    copy(out, 18 + t, cs, c);
+    size
+}
+
 // The bytes of a table, or its refusal, or 12 with the size that is needed.
 pub fn write(h: Head, ts: &[u8], cs: &[u8], out: &mut [u8]) -> SizeAnswer
     ensures { λ r. ⌜ (r ≡ writeOf h (now (ts .entry)) (now (cs .entry)) (length (now (out .entry)))) × (now (out .exit) ≡ writtenOf h (now (ts .entry)) (now (cs .entry)) (now (out .entry))) ⌝ }
@@ -237,15 +256,10 @@ pub fn write(h: Head, ts: &[u8], cs: &[u8], out: &mut [u8]) -> SizeAnswer
     if number != 0 {
         return SizeAnswer::Refused(number, place);
     }
-    let t = 4 * h.n;
-    let c = 4 * h.k;
-    let size = 18 + (t + c);
-    if out.len() < size {
+    let room = out.len();
+    let size = lay(h, ts, cs, out);
+    if room < size {
         return SizeAnswer::Refused(12, size);
     }
-    let first = front(h);
-    copy(out, 0, &first, 18);
-    copy(out, 18, ts, t);
-    copy(out, 18 + t, cs, c);
     SizeAnswer::Size(size)
 }

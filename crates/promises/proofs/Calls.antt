@@ -37,10 +37,11 @@ use Rattle.fitting.proofs.Fitted.{fits-accepted, accepts-fitting}
 use Rattle.engine.specs.declared.Stepped.{Stepped}
 use Rattle.engine.specs.ByValue.{takenAnswer}
 use Rattle.engine.proofs.Known.{kind-step}
+use Rattle.sheet_engine.specs.declared.Compacted.{Compacted}
 use Rattle.sheet_engine.specs.declared.StandingAnswer.{StandingAnswer}
-use Rattle.sheet_engine.specs.Answers.{listAnswer, callChecks, listBuffer, standingOf, standingAnswer, standingBuffer, waitsAnswer, waitsBuffer, kindAnswer, stepAnswer}
+use Rattle.sheet_engine.specs.Answers.{listAnswer, callChecks, listBuffer, standingOf, standingAnswer, standingBuffer, waitsAnswer, waitsBuffer, kindAnswer, stepAnswer, compactAnswer}
 use Rattle.sheet_engine.specs.Values.{sizeValues, standingValues, stepValues}
-use Rattle.sheet_engine.proofs.Steps.{table-first, state-then, kind-refused, kind-given, step-refused, step-given, list-refused, list-given, stand-refused, stand-given, waits-refused, waits-given}
+use Rattle.sheet_engine.proofs.Steps.{table-first, state-then, kind-refused, kind-given, step-refused, step-given, list-refused, list-given, stand-refused, stand-given, waits-refused, waits-given, compact-refused}
 use Rattle.sheet_engine.proofs.Stands.{stands-rows}
 use Rattle.promises.specs.Calls.{Accepted, countOf, listedIn, listedRows, waitingIn, waitingRows, awaitedIn, awaitedBytes, Run, done, more, taken, last}
 
@@ -228,6 +229,9 @@ module _ (t : Table) (s : State) where
 
     pub step-unrefused : (r : ℕ) → stepValues (stepAnswer t s r .answer) .refusal ≡ 0 → Accepted t s
     step-unrefused r = told _ (λ h. ap (λ (k : Stepped). stepValues (k .answer) .refusal) (step-refused t s refusal refl r h))
+
+    pub compact-unrefused : (lent : List ℕ) → sizeValues (compactAnswer t s (length lent) .answer) .refusal ≡ 0 → Accepted t s
+    compact-unrefused lent = told _ (λ h. ap (λ (c : Compacted). sizeValues (c .answer) .refusal) (compact-refused t s refusal refl lent h .0))
 
   -- of an accepted state a list is answered where there is room for 256 rows, and the state after a step is one of the table
   module _ (a : Accepted t s) where

@@ -30,8 +30,9 @@ use Rattle.moves.specs.Fits.{countsOk, countsFit, Fits}
 use Rattle.moves.proofs.Fits.{counts-said}
 use Rattle.moves.proofs.Counts.{acts-by-row, act-row}
 use Rattle.moves.proofs.Demand.{fresh-left, fresh-links}
+use Rattle.compacted.specs.Compacted.{compactedSheet}
 use Rattle.sheet_engine.specs.declared.StandingAnswer.the-variants as stands
-use Rattle.sheet_engine.specs.Answers.{actsLeft, linksUnset, callChecks, listAnswer, standingAnswer, waitsAnswer, kindAnswer, notTaken, stepAnswer}
+use Rattle.sheet_engine.specs.Answers.{actsLeft, linksUnset, callChecks, listAnswer, standingAnswer, waitsAnswer, kindAnswer, notTaken, stepAnswer, notCompacted, compactAnswer}
 use Rattle.sheet_engine.proofs.Values.{all-held}
 use Rattle.sheet_engine.proofs.Steps.{state-back}
 use Rattle.promises.specs.Calls.{Accepted, freshIn, next, Run, last}
@@ -137,6 +138,10 @@ module _ (t : Table) (s : State) (others : AllHold (upToD t s)) (wrong : FullCou
   pub waits-wrong : (lent : ℕ) → waitsAnswer t s lent ≡ size.Refused 10 0
   unfolding waitsAnswer
   waits-wrong lent = first-fails size.Refused _ (wrong-first (room (length (waitingOf t s)) lent ∷ []))
+
+  pub compact-wrong : (lent : ℕ) → compactAnswer t s lent ≡ notCompacted s 10 0
+  unfolding compactAnswer
+  compact-wrong lent = first-fails (notCompacted s) _ (wrong-first (room (length (compactedSheet t s)) lent ∷ []))
 
   pub kind-wrong : (row : ℕ) → kindAnswer t s row ≡ kind.Refused 10 0
   unfolding kindAnswer

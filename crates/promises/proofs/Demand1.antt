@@ -30,6 +30,7 @@ use Rattle.sheet_engine.proofs.links_unset as links-unset
 use Rattle.sheet_engine.proofs.step_kind as step-kind
 use Rattle.sheet_engine.proofs.take_step as take-step
 use Rattle.sheet_engine.proofs.step_in_place as step-in-place
+use Rattle.sheet_engine.proofs.compact as compact
 use Rattle.laws.specs.Checks.{Check}
 use Rattle.laws.specs.Listed.{written}
 use Rattle.sheet.specs.declared.Head.{Head}
@@ -45,19 +46,21 @@ use Rattle.state.specs.declared.StepKind.{StepKind}
 use Rattle.state.specs.declared.StepKind.the-variants as kind
 use Rattle.moves.specs.Steps.{kindAt, listedOf, startOf, steppedOf}
 use Rattle.moves.specs.Standing.{waitingOf, awaitsOf}
+use Rattle.compacted.specs.Compacted.{compactedSheet}
 use Rattle.engine.specs.declared.Stepped.{Stepped}
 use Rattle.verdict.specs.Verdict.{verdictOf}
 use Rattle.sheet_engine.specs.declared.VerdictAnswer.the-variants as verdict
+use Rattle.sheet_engine.specs.declared.Compacted.{Compacted}
 use Rattle.sheet_engine.specs.declared.StandingAnswer.{StandingAnswer}
 use Rattle.sheet_engine.specs.declared.StandingAnswer.the-variants as stands
-use Rattle.sheet_engine.specs.Answers.{given, verdictAnswer, startChecks, started, notStarted, startAnswer, actsLeft, linksUnset, listChecks, listAnswer, listBuffer, standingOf, standingChecks, standingAnswer, standingBuffer, waitsAnswer, waitsBuffer, kindAnswer, notTaken, stepAnswer}
+use Rattle.sheet_engine.specs.Answers.{given, verdictAnswer, startChecks, started, notStarted, startAnswer, actsLeft, linksUnset, listChecks, listAnswer, listBuffer, standingOf, standingChecks, standingAnswer, standingBuffer, waitsAnswer, waitsBuffer, kindAnswer, notTaken, stepAnswer, compactChecks, notCompacted, wasCompacted, compactAnswer, compactBuffer}
 use Rattle.sheet_engine.specs.Values.{rowChecks, wasTaken}
 use Rattle.promises.specs.Contracts.{AsksNothing}
 use Rattle.promises.specs.Refused.{Answered, readChecks}
 use Rattle.promises.proofs.Refused.{answered, both-answered, map-answered, sheet-answered, kind-answered, step-answered}
 -- ... each answer once more by document 01's number and values, where a refusal has 0 in all other places; and that no second answer fits the contract of a call
-pub use Rattle.sheet_engine.proofs.Values.{read-answers, write-answers, verdict-answers, list-answers, standing-answers, waits-answers, kind-answers, step-answers}
-pub use Rattle.sheet_engine.proofs.Unique.{read-sheet-one, settings-part-one, terms-part-one, conditions-part-one, judge-table-one, write-sheet-one, give-verdict-one, start-one, acts-left-one, links-unset-one, list-steps-one, standing-one, waits-for-one, step-kind-one, take-step-one, step-in-place-one}
+pub use Rattle.sheet_engine.proofs.Values.{read-answers, write-answers, verdict-answers, list-answers, standing-answers, waits-answers, kind-answers, step-answers, compact-answers}
+pub use Rattle.sheet_engine.proofs.Unique.{read-sheet-one, settings-part-one, terms-part-one, conditions-part-one, judge-table-one, write-sheet-one, give-verdict-one, start-one, acts-left-one, links-unset-one, list-steps-one, standing-one, waits-for-one, step-kind-one, take-step-one, step-in-place-one, compact-one}
 
 -- "Every public call ends": each meets its contract, and a contract is met only by code that ends.
 pub every-call-ends : {M : Type 1} → read-sheet.Statement.statement M
@@ -76,6 +79,7 @@ pub every-call-ends : {M : Type 1} → read-sheet.Statement.statement M
     × step-kind.Statement.statement M
     × take-step.Statement.statement M
     × step-in-place.Statement.statement M
+    × compact.Statement.statement M
 every-call-ends = (
   read-sheet.Met.met,
   settings-part.Met.met,
@@ -93,6 +97,7 @@ every-call-ends = (
   step-kind.Met.met,
   take-step.Met.met,
   step-in-place.Met.met,
+  compact.Met.met,
 )
 
 -- "and takes any bytes, table, state or row number": no contract asks anything of what is handed in.
@@ -113,7 +118,9 @@ module _ {M : Type 1} (𝓤 : URA M) (H : Heap 𝓤) (A : Atoms 𝓤) (at-mem : 
       × AsksNothing 𝓤 step-kind.ended (step-kind.clauses 𝓤 H A at-mem run)
       × AsksNothing 𝓤 take-step.ended (take-step.clauses 𝓤 H A at-mem run)
       × AsksNothing 𝓤 step-in-place.ended (step-in-place.clauses 𝓤 H A at-mem run)
+      × AsksNothing 𝓤 compact.ended (compact.clauses 𝓤 H A at-mem run)
   every-call-takes-any = (
+    λ κs a g P. top 𝓤 P,
     λ κs a g P. top 𝓤 P,
     λ κs a g P. top 𝓤 P,
     λ κs a g P. top 𝓤 P,
@@ -186,6 +193,11 @@ pub waits-for-answers : (t : Table) (s : State) (out : List ℕ) → Answered {A
 unfolding waitsAnswer waitsBuffer
 waits-for-answers t s out = both-answered size.Refused (size.Size (length (waitingOf t s))) (λ number place. out) (written (awaitsOf t s) out) (standingChecks t s (length out))
 
+-- `compact`: the size of the compacted sheet and the state that goes with it, and the sheet at the buffer's front; a refusal hands the state back and leaves the buffer as it was
+pub compact-call-answers : (t : Table) (s : State) (out : List ℕ) → Answered {A = Compacted × List ℕ} (λ number place. (notCompacted s number place, out)) (wasCompacted t s, written (compactedSheet t s) out) (compactChecks t s (length out)) (compactAnswer t s (length out), compactBuffer t s out)
+unfolding compactAnswer compactBuffer
+compact-call-answers t s out = both-answered (notCompacted s) (wasCompacted t s) (λ number place. out) (written (compactedSheet t s) out) (compactChecks t s (length out))
+
 -- `step_kind`: the kind
 pub step-kind-answers : (t : Table) (s : State) (row : ℕ) → Answered kind.Refused (kindAt t s row) (rowChecks t s row) (kindAnswer t s row)
 step-kind-answers = kind-answered
@@ -221,5 +233,6 @@ pub in-order :
     × ((t : Table) (mode : ℕ) → numbers (startChecks t mode) ≡ 1 ∷ 3 ∷ 4 ∷ 5 ∷ 6 ∷ 7 ∷ 13 ∷ 8 ∷ 9 ∷ [])
     × ((t : Table) (s : State) (lent : ℕ) → numbers (listChecks t s lent) ≡ 1 ∷ 3 ∷ 4 ∷ 5 ∷ 6 ∷ 7 ∷ 13 ∷ 8 ∷ 9 ∷ 10 ∷ 10 ∷ 10 ∷ 10 ∷ 10 ∷ 12 ∷ [])
     × ((t : Table) (s : State) (lent : ℕ) → numbers (standingChecks t s lent) ≡ 1 ∷ 3 ∷ 4 ∷ 5 ∷ 6 ∷ 7 ∷ 13 ∷ 8 ∷ 9 ∷ 10 ∷ 10 ∷ 10 ∷ 10 ∷ 10 ∷ 12 ∷ [])
+    × ((t : Table) (s : State) (lent : ℕ) → numbers (compactChecks t s lent) ≡ 1 ∷ 3 ∷ 4 ∷ 5 ∷ 6 ∷ 7 ∷ 13 ∷ 8 ∷ 9 ∷ 10 ∷ 10 ∷ 10 ∷ 10 ∷ 10 ∷ 12 ∷ [])
     × ((t : Table) (s : State) (row : ℕ) → numbers (rowChecks t s row) ≡ 1 ∷ 3 ∷ 4 ∷ 5 ∷ 6 ∷ 7 ∷ 13 ∷ 8 ∷ 9 ∷ 10 ∷ 10 ∷ 10 ∷ 10 ∷ 10 ∷ 11 ∷ [])
-in-order = (λ s. refl, λ t. refl, λ h ts cs lent. refl, λ t mode. refl, λ t s lent. refl, λ t s lent. refl, λ t s row. refl)
+in-order = (λ s. refl, λ t. refl, λ h ts cs lent. refl, λ t mode. refl, λ t s lent. refl, λ t s lent. refl, λ t s lent. refl, λ t s row. refl)

@@ -73,7 +73,8 @@ use Rattle.engine.specs.declared.Stepped.{Stepped}
 use Rattle.engine.specs.ByValue.{takenAnswer}
 use Rattle.sheet_engine.specs.declared.VerdictAnswer.{VerdictAnswer}
 use Rattle.sheet_engine.specs.declared.StandingAnswer.{StandingAnswer}
-use Rattle.sheet_engine.specs.Answers.{verdictAnswer, startAnswer, callChecks, listAnswer, listBuffer, standingAnswer, standingBuffer, waitsAnswer, waitsBuffer, kindAnswer, notTaken, stepAnswer}
+use Rattle.sheet_engine.specs.declared.Compacted.{Compacted}
+use Rattle.sheet_engine.specs.Answers.{verdictAnswer, startAnswer, callChecks, listAnswer, listBuffer, standingAnswer, standingBuffer, waitsAnswer, waitsBuffer, kindAnswer, notTaken, stepAnswer, compactAnswer, compactBuffer}
 use Rattle.sheet_engine.specs.Values.{verdictValues, FailsAt, sizeValues, standingValues, stepValues}
 use Rattle.sheet_engine.proofs.read_sheet as read-sheet
 use Rattle.sheet_engine.proofs.read_sheet.Reads as read-sheet-reads
@@ -87,6 +88,9 @@ use Rattle.sheet_engine.proofs.standing.Kinds as standing-kinds
 use Rattle.sheet_engine.proofs.waits_for as waits-for
 use Rattle.sheet_engine.proofs.waits_for.Reads as waits-for-reads
 use Rattle.sheet_engine.proofs.waits_for.Kinds as waits-for-kinds
+use Rattle.sheet_engine.proofs.compact as compact
+use Rattle.sheet_engine.proofs.compact.Reads as compact-reads
+use Rattle.sheet_engine.proofs.compact.Kinds as compact-kinds
 use Rattle.sheet_engine.proofs.step_kind as step-kind
 use Rattle.sheet_engine.proofs.step_kind.Reads as step-kind-reads
 use Rattle.sheet_engine.proofs.step_kind.Kinds as step-kind-kinds
@@ -94,10 +98,10 @@ use Rattle.sheet_engine.proofs.take_step as take-step
 use Rattle.sheet_engine.proofs.take_step.Reads as take-step-reads
 use Rattle.sheet_engine.proofs.take_step.Kinds as take-step-kinds
 use Rattle.sheet_engine.proofs.step_in_place as step-in-place
-use Rattle.sheet_engine.proofs.Beyond.{cut-write-answer, cut-write-buffer, cut-verdict-answer, cut-start-answer, cut-list-answer, cut-list-buffer, cut-standing-answer, cut-standing-buffer, cut-waits-answer, cut-waits-buffer, cut-kind-answer, cut-step-answer}
+use Rattle.sheet_engine.proofs.Beyond.{cut-write-answer, cut-write-buffer, cut-verdict-answer, cut-start-answer, cut-list-answer, cut-list-buffer, cut-standing-answer, cut-standing-buffer, cut-waits-answer, cut-waits-buffer, cut-kind-answer, cut-step-answer, cut-compact-answer, cut-compact-buffer}
 use Rattle.sheet_engine.proofs.Promises.{pass-answered, fail-answered, fail-values}
 use Rattle.promises.specs.Calls.{Accepted, verdictIn, Passes, Fails, SameAnswers, freshIn, link, listedIn, listedRows, next, Allowed, Run, taken}
-use Rattle.promises.proofs.Calls.{formed, one-source as one-source-in, refusal, unrefused, kind-is, rows-are, row-listed, state-is, turned, listed-in, listed-any, ok-listed, list-unrefused, standing-unrefused, waits-unrefused, kind-unrefused, step-unrefused, accepted-listed, taken-keeps, run-short}
+use Rattle.promises.proofs.Calls.{formed, one-source as one-source-in, refusal, unrefused, kind-is, rows-are, row-listed, state-is, turned, listed-in, listed-any, ok-listed, list-unrefused, standing-unrefused, waits-unrefused, kind-unrefused, step-unrefused, compact-unrefused, accepted-listed, taken-keeps, run-short}
 use Rattle.promises.proofs.Alike.{link-is}
 use Rattle.promises.proofs.Fresh.{fresh-accepted}
 use Rattle.promises.proofs.Verdict.{pass-told, fail-told, offending}
@@ -127,6 +131,8 @@ nothing-beyond t t′ e = record {
   awaited = (λ s lent. both (λ u. waitsBuffer u s lent) (λ u. cut-waits-buffer u s lent));
   kind = (λ s row. both (λ u. kindAnswer u s row) (λ u. cut-kind-answer u s row));
   stepped = (λ s row. both (λ u. stepAnswer u s row) (λ u. cut-step-answer u s row));
+  compacted = (λ s lent. both (λ u. compactAnswer u s lent) (λ u. cut-compact-answer u s lent));
+  collected = (λ s lent. both (λ u. compactBuffer u s lent) (λ u. cut-compact-buffer u s lent));
 }
   where
     both : {A : Type 0} (f : Table → A) → ((u : Table) → f u ≡ f (cut u)) → f t ≡ f t′
@@ -233,6 +239,10 @@ module _ (κs : Lfts 2) (a : ArgsD step-kind.signature κs) (z : AtExit (endedOf
 module _ (κs : Lfts 2) (a : ArgsD take-step.signature κs) (z : AtExit (endedOf 2 take-step-kinds.ps take-step-kinds.r) κs) (r : ResD take-step.signature κs) (took : take-step-reads.Post κs a r z) where
   pub take-accepts : stepValues (r .answer) .refusal ≡ 0 → Accepted (tableOf (a .1 .0) (now (a .1 .1 .0)) (now (a .1 .1 .1 .0))) (a .0)
   take-accepts e = step-unrefused _ (a .0) (took .1) _ (ap (λ (k : Stepped). stepValues (k .answer) .refusal) (sym (took .0)) ∙ e)
+
+module _ (κs : Lfts 3) (a : ArgsD compact.signature κs) (z : AtExit (endedOf 3 compact-kinds.ps compact-kinds.r) κs) (r : ResD compact.signature κs) (made : compact-reads.Post κs a r z) where
+  pub compact-accepts : sizeValues (r .answer) .refusal ≡ 0 → Accepted (tableOf (a .1 .0) (now (a .1 .1 .0)) (now (a .1 .1 .1 .0))) (a .0)
+  compact-accepts e = compact-unrefused _ (a .0) (made .1) (now (a .1 .1 .1 .1 .0)) (ap (λ (c : Compacted). sizeValues (c .answer) .refusal) (sym (made .0 .0)) ∙ e)
 
 -- ... of the record as it was lent, at every model
 module _ {M : Type 1} (𝓤 : URA M) (H : Heap 𝓤) (A : Atoms 𝓤) (at-mem : Memory → SProp 𝓤) (run : Routine → Fun 𝓤) (κs : Lfts 3) (a : Args step-in-place.signature κs) (z : AtExit step-in-place.ended κs) (r : Res step-in-place.signature κs) where

@@ -6,6 +6,7 @@ pub mod Sources
 pub mod Waits
 pub mod Counts
 pub mod AtOnce
+pub mod Compacted
 pub mod Cases
 -- what they rest on
 pub mod Refused

@@ -21,9 +21,9 @@ use Rattle.codec.specs.Answers.{readOf, writeOf}
 use Rattle.state.specs.declared.State.{State}
 use Rattle.moves.specs.Steps.{startOf}
 use Rattle.sheet_engine.specs.declared.Started.{Started}
-use Rattle.sheet_engine.specs.Answers.{verdictAnswer, startChecks, started, notStarted, startAnswer, listAnswer, standingAnswer, waitsAnswer, kindAnswer, stepAnswer}
+use Rattle.sheet_engine.specs.Answers.{verdictAnswer, startChecks, started, notStarted, startAnswer, listAnswer, standingAnswer, waitsAnswer, kindAnswer, stepAnswer, compactAnswer}
 use Rattle.sheet_engine.specs.Values.{VerdictValues, verdictValues, SheetValues, sheetValues, SizeValues, sizeValues, StandingValues, standingValues, StepValues, stepValues, Answers}
-use Rattle.sheet_engine.proofs.Values.{all-held, read-answers, write-answers, verdict-answers, list-answers, standing-answers, waits-answers, kind-answers, step-answers}
+use Rattle.sheet_engine.proofs.Values.{all-held, read-answers, write-answers, verdict-answers, list-answers, standing-answers, waits-answers, kind-answers, step-answers, compact-answers}
 use Rattle.promises.specs.Sources.{upTo7, Thirteen}
 use Rattle.promises.proofs.Refused.{place-fails, refused-there, one-out, first-fails, Reads, values-told}
 
@@ -117,6 +117,10 @@ module _ (t : Table) (place : ℕ) where
     pub take-step-13 : (row : ℕ) → ((stepValues (stepAnswer t s row .answer) .refusal ≡ 13) × (stepValues (stepAnswer t s row .answer) .place ≡ place)) ↔ Thirteen t place
     unfolding without
     take-step-13 row = of-call (λ (v : StepValues). v .refusal) (λ v. v .place) _ (step-answers t s row) (λ n p. (refl, refl)) refl
+
+    pub compact-13 : (lent : ℕ) → ((sizeValues (compactAnswer t s lent .answer) .refusal ≡ 13) × (sizeValues (compactAnswer t s lent .answer) .place ≡ place)) ↔ Thirteen t place
+    unfolding without
+    compact-13 lent = of-call (λ (v : SizeValues). v .refusal) (λ v. v .place) _ (compact-answers t s lent) (λ n p. (refl, refl)) refl
 
 pub write-sheet-13 : (h : Head) (ts cs : List ℕ) (lent place : ℕ) → ((sizeValues (writeOf h ts cs lent) .refusal ≡ 13) × (sizeValues (writeOf h ts cs lent) .place ≡ place)) ↔ Thirteen (tableOf h ts cs) place
 unfolding without

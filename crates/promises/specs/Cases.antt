@@ -1,7 +1,7 @@
--- Document 01, "Examples on each side": the cases marked P, and after document 02 how sheet X stands, what is left of it, and the steps of sheet Y in two orders, as one table. A row is a sheet in bytes, what is asked of it, and what the calls answer.
+-- Document 01, "Examples on each side": the cases marked P, and after document 02 how sheet X stands, what is left of it, what it is when compacted, and the steps of sheet Y in two orders, as one table. A row is a sheet in bytes, what is asked of it, and what the calls answer.
 use Prim.Native.Nat.{ℕ, _-_}
 use mathlib.Core.List.{List, [], _∷_, _++_}
-use lib.ListN.{take}
+use lib.ListN.{take, replicate}
 use Rattle.sheet.specs.Table.{Table, tableOf}
 use Rattle.sheet.specs.Sheet.{sheetOf, termsOf, conditionsOf}
 use Rattle.codec.specs.declared.SheetAnswer.{SheetAnswer}
@@ -19,20 +19,23 @@ use Rattle.sheet_engine.specs.declared.StandingAnswer.{StandingAnswer}
 use Rattle.sheet_engine.specs.declared.StandingAnswer.the-variants.{Enabled, Finished, Waiting}
 use Rattle.sheet_engine.specs.Answers.{verdictAnswer, actsLeft, linksUnset, listAnswer, standingAnswer, stepAnswer}
 use Rattle.promises.specs.Calls.{freshIn, listedSteps, waitingRows, awaitedBytes}
+use Rattle.promises.specs.Compacted.{sheetMade, stateMade}
 
--- what is asked: the verdict; or what a caller sees who starts the sheet in a mode and takes the steps of some rows; or how the sheet stands then; or what is left
+-- what is asked: the verdict; or what a caller sees who starts the sheet in a mode and takes the steps of some rows; or how the sheet stands then; or what is left; or what it is then, compacted
 pub data Question : Type 0 where
   verdict : Question
   after : (mode : ℕ) (rows : List ℕ) → Question
   standing : (mode : ℕ) (rows : List ℕ) → Question
   counts : (mode : ℕ) (rows : List ℕ) → Question
+  compacting : (mode : ℕ) (rows : List ℕ) → Question
 
--- the answers of `take_step` on the way and of `list_steps`, the listed steps with their kinds, and the links of the sheet; or the answer of `standing`, with the rows waited for and, from `waits_for`, what each waits for; or the answers of `acts_left` and `links_unset`
+-- the answers of `take_step` on the way and of `list_steps`, the listed steps with their kinds, and the links of the sheet; or the answer of `standing`, with the rows waited for and, from `waits_for`, what each waits for; or the answers of `acts_left` and `links_unset`; or the sheet and the state that `compact` makes, of the state the links of the sheet and the two counts
 pub data Answer : Type 0 where
   Verdict : VerdictAnswer → Answer
   Seen : (took : List StepKind) (answer : SizeAnswer) (steps : List Taken) (links : List ℕ) → Answer
   Stands : (answer : StandingAnswer) (rows links : List ℕ) → Answer
   Counts : (acts unset : ℕ) → Answer
+  Made : (sheet links : List ℕ) (acts unset : ℕ) → Answer
 
 pub record Case : Type 0 where
   pub sheet : List ℕ
@@ -65,11 +68,15 @@ standsIn t s = Stands (standingAnswer t s 256) (waitingRows t s) (awaitedBytes t
 abbrev pub countsTold : State → Answer
 countsTold s = Counts (actsLeft s) (linksUnset s)
 
+abbrev pub madeIn : Table → State → Answer
+madeIn t s = let z : State = stateMade t s (replicate 2066 0) in Made (sheetMade t s (replicate 2066 0)) (take (t .m) (z .links)) (actsLeft z) (linksUnset z)
+
 unfoldable pub answerTo : Table → Question → Answer
 answerTo t verdict = Verdict (verdictAnswer t)
 answerTo t (after mode rows) = seenIn t (stateAfter t (freshIn t mode) rows) (tookAll t (freshIn t mode) rows)
 answerTo t (standing mode rows) = standsIn t (stateAfter t (freshIn t mode) rows)
 answerTo t (counts mode rows) = countsTold (stateAfter t (freshIn t mode) rows)
+answerTo t (compacting mode rows) = madeIn t (stateAfter t (freshIn t mode) rows)
 
 -- sheet X
 abbrev pub X : List ℕ
@@ -77,6 +84,10 @@ X =
     0x03 ∷ 0x01 ∷ 0x10 ∷ 0x00 ∷ 0x02 ∷ 0x00 ∷ 0x02 ∷ 0x12 ∷ 0x00 ∷ 0x24 ∷ 0x00 ∷ 0x03 ∷ 0x36 ∷ 0x00 ∷ 0x0C ∷ 0x00 ∷ 0x01 ∷ 0x01 ∷
     0x05 ∷ 0x01 ∷ 0x06 ∷ 0x00 ∷ 0x04 ∷ 0x02 ∷ 0x04 ∷ 0x00 ∷ 0x01 ∷ 0x0A ∷ 0x03 ∷ 0x00 ∷ 0x00 ∷ 0x00 ∷ 0x00 ∷ 0x00 ∷ 0x02 ∷ 0x00 ∷ 0x01 ∷ 0x05 ∷ 0x00 ∷ 0x00 ∷ 0x00 ∷ 0x00 ∷ 0x03 ∷ 0x02 ∷ 0x07 ∷ 0x00 ∷ 0x01 ∷ 0x0C ∷ 0x08 ∷ 0x00 ∷ 0x00 ∷ 0x00 ∷ 0x00 ∷ 0x00 ∷
     0x00 ∷ 0x00 ∷ 0x00 ∷ 0x00 ∷ 0x02 ∷ 0x00 ∷ 0x00 ∷ 0x00 ∷ 0x05 ∷ 0x00 ∷ 0x01 ∷ 0x00 ∷ []
+
+-- of sheet X so many rows, with these bytes, lazy and compacted, with the condition rows of X
+abbrev pub compactedX : ℕ → List ℕ → List ℕ
+compactedX n terms = sheetOf (record { evaluation = 3; m = 1; n = n; k = 3 }) terms (conditionsOf X)
 
 -- sheet Y: 0 PICK of 1 FLOW and 6 OUT 1 true, 7 NIL; the FLOW of 2 ACT 10, 3 NIL and 4 OUT 0 true, 5 NIL
 abbrev pub Y : List ℕ
@@ -145,6 +156,10 @@ cases =
     of Y (after 1 (2 ∷ 4 ∷ [])) (Seen (Act 10 ∷ Set 0 1 ∷ []) (Size 0) [] (2 ∷ 1 ∷ [])) ∷
     of Y (after 1 (4 ∷ 2 ∷ [])) (Seen (Set 0 1 ∷ Act 10 ∷ []) (Size 0) [] (2 ∷ 1 ∷ [])) ∷
     of Y (after 1 (6 ∷ [])) (Seen (Set 1 1 ∷ []) (Size 0) [] (1 ∷ 2 ∷ [])) ∷
+    -- request 8: after 2, of the PICK nothing is left but NIL, and the JOIN reads link 0, whose OUT row is spent; after 4 and the clean step the JOIN is NIL, and its ACT 12 is gone; a sheet that nobody has run keeps its rows
+    of X (compacting 1 (2 ∷ [])) (Made (compactedX 5 ((5 ∷ 1 ∷ 2 ∷ 0 ∷ []) ++ (0 ∷ 0 ∷ 0 ∷ 0 ∷ []) ++ (3 ∷ 2 ∷ 3 ∷ 0 ∷ []) ++ (1 ∷ 12 ∷ 4 ∷ 0 ∷ []) ++ (0 ∷ 0 ∷ 0 ∷ 0 ∷ []))) (1 ∷ []) 1 0) ∷
+    of X (compacting 1 (4 ∷ 6 ∷ [])) (Made (compactedX 3 ((5 ∷ 1 ∷ 2 ∷ 0 ∷ []) ++ (0 ∷ 0 ∷ 0 ∷ 0 ∷ []) ++ (0 ∷ 0 ∷ 0 ∷ 0 ∷ []))) (2 ∷ []) 0 0) ∷
+    of X (compacting 0 []) (Made (compactedX 9 (termsOf X)) (0 ∷ []) 2 1) ∷
     -- "lazy OR of links 0 and 1 passes", "strict, it fails with number 5, link 1"
     of (joinOn 1 3 (LINK 0 ++ LINK 1 ++ OR 0 1)) verdict (Verdict Pass) ∷
     of (joinOn 0 3 (LINK 0 ++ LINK 1 ++ OR 0 1)) verdict (Verdict (Fail 2 5 1)) ∷

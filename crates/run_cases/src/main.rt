@@ -4,7 +4,7 @@ use libc::STDOUT_FILENO;
 // More than any text of a case of the program.
 const TEXT: usize = 65792;
 
-// What answers an input: the program; the calls on a state; the calls on a table; the call that tells how a state stands, alone or with the one that tells what it waits for; the counts of a state.
+// What answers an input: the program; the calls on a state; the calls on a table; the call that tells how a state stands, alone or with the one that tells what it waits for; the counts of a state; the call that compacts.
 enum Kind {
     Program,
     States,
@@ -12,6 +12,7 @@ enum Kind {
     Standing,
     Waiting,
     Counts,
+    Compacted,
 }
 
 fn prints(input: &[u8], expected: &[u8]) -> bool {
@@ -43,6 +44,7 @@ fn next_case(file: i32, kind: Kind) -> u8 {
         Kind::Standing => standing_cases::agrees(file, false) as u8,
         Kind::Waiting => standing_cases::agrees(file, true) as u8,
         Kind::Counts => counts_cases::agrees(file) as u8,
+        Kind::Compacted => compact_cases::agrees(file) as u8,
     }
 }
 
@@ -91,4 +93,5 @@ fn main() {
     try_file(b"waiting, request 5", b"standing.cases", Kind::Waiting);
     try_file(b"states, request 6", b"states-6.cases", Kind::States);
     try_file(b"counts, request 6", b"counts.cases", Kind::Counts);
+    try_file(b"compacted, request 8", b"compact.cases", Kind::Compacted);
 }

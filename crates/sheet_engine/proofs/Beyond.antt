@@ -25,12 +25,13 @@ use Rattle.state.specs.State.{freshOf}
 use Rattle.moves.specs.Steps.{kindAt, startOf}
 use Rattle.moves.specs.Fits.{modeCheck, fitChecks}
 use Rattle.moves.proofs.Beyond.{cut-counted, cut-fits, cut-kind, cut-listed, cut-joins, cut-waiting, cut-awaits, cut-stepped}
+use Rattle.compacted.proofs.Beyond.{cut-sheet, cut-restarted}
 use Rattle.engine.specs.ByValue.{takenAnswer}
 use Rattle.verdict.specs.Verdict.{verdictOf}
 use Rattle.verdict.proofs.Beyond.{cut-verdict}
 use Rattle.sheet_engine.specs.declared.StandingAnswer.the-variants as standing
 use Rattle.sheet_engine.specs.declared.VerdictAnswer.the-variants.{Refused}
-use Rattle.sheet_engine.specs.Answers.{given, verdictAnswer, started, notStarted, startChecks, startAnswer, callChecks, listAnswer, listBuffer, standingBy, standingOf, standingAnswer, standingBuffer, waitsAnswer, waitsBuffer, kindAnswer, notTaken, stepAnswer}
+use Rattle.sheet_engine.specs.Answers.{given, verdictAnswer, started, notStarted, startChecks, startAnswer, callChecks, listAnswer, listBuffer, standingBy, standingOf, standingAnswer, standingBuffer, waitsAnswer, waitsBuffer, kindAnswer, notTaken, stepAnswer, notCompacted, compactAnswer, compactBuffer}
 
 formed : (t : Table) → AllHold (tableChecks t) → WellFormed t
 unfolding refusalOf
@@ -130,3 +131,11 @@ module _ (t : Table) (s : State) where
   pub cut-step-answer : (row : ℕ) → stepAnswer t s row ≡ stepAnswer (cut t) s row
   unfolding stepAnswer takenAnswer
   cut-step-answer row = call-cut (notTaken s) (takenAnswer t s row) (takenAnswer (cut t) s row) t s (λ w. rw (cut-kind t w s row, cut-stepped t w s row) refl)
+
+  pub cut-compact-answer : (lent : ℕ) → compactAnswer t s lent ≡ compactAnswer (cut t) s lent
+  unfolding compactAnswer
+  cut-compact-answer lent = rows-cut (notCompacted s) _ _ _ _ t s (λ w. (ap₂ (λ (l : List ℕ) (z : State). record { answer = sized l; state = z }) (cut-sheet t s) (cut-restarted t s), cut-sheet t s)) lent
+
+  pub cut-compact-buffer : (lent : List ℕ) → compactBuffer t s lent ≡ compactBuffer (cut t) s lent
+  unfolding compactBuffer
+  cut-compact-buffer lent = rows-cut (λ number place. lent) _ _ _ _ t s (λ w. (ap (λ l. written l lent) (cut-sheet t s), cut-sheet t s)) (length lent)

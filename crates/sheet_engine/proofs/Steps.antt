@@ -28,18 +28,22 @@ use Rattle.codec.specs.declared.SizeAnswer.the-variants as size
 use Rattle.state.specs.declared.State.{State}
 use Rattle.state.specs.declared.StepKind.{StepKind}
 use Rattle.state.specs.declared.StepKind.the-variants as kind
+use Rattle.state.specs.State.{restartOf}
 use Rattle.moves.specs.Steps.{nodes, turnAt, kindTurned, kindAt, isSome, hasStep, listedOf, steppedOf}
 use Rattle.moves.specs.Standing.{waitingOf, awaitsOf}
 use Rattle.moves.specs.Fits.{modeCheck, fitChecks}
 use Rattle.moves.proofs.Standing.{awaits-length}
+use Rattle.compacted.specs.Compacted.{compactedSheet, restarted}
+use Rattle.compacted.proofs.Compacted.{restarted-is}
 use Rattle.fitting.specs.Checks.{stateChecks}
-use Rattle.fitting.proofs.Fitted.{state-checks}
+use Rattle.fitting.proofs.Fitted.{state-checks, fits-accepted}
 use Rattle.engine.specs.declared.Stepped.{Stepped}
 use Rattle.engine.specs.ByValue.{takenAnswer}
 use Rattle.engine.proofs.Known.{kind-step, answer-refused}
+use Rattle.sheet_engine.specs.declared.Compacted.{Compacted}
 use Rattle.sheet_engine.specs.declared.StandingAnswer.{StandingAnswer}
 use Rattle.sheet_engine.specs.declared.StandingAnswer.the-variants as standing
-use Rattle.sheet_engine.specs.Answers.{callChecks, listAnswer, listBuffer, standingOf, standingAnswer, standingBuffer, waitsAnswer, waitsBuffer, kindAnswer, notTaken, stepAnswer}
+use Rattle.sheet_engine.specs.Answers.{callChecks, listAnswer, listBuffer, standingOf, standingAnswer, standingBuffer, waitsAnswer, waitsBuffer, kindAnswer, notTaken, stepAnswer, notCompacted, wasCompacted, compactAnswer, compactBuffer}
 use Rattle.sheet_engine.specs.Values.{rowCheck, rowChecks, wasTaken}
 
 -- where none of two lists of checks fails, none of the first does
@@ -183,10 +187,37 @@ module _ (t : Table) (s : State) (r : Refusal) (told : r ≡ checked refuse (ref
     unfolding waitsAnswer waitsBuffer
     waits-given h = rw (← awaits-length t s) (size-given (awaitsOf t s) lent out n e (f ∙ sym (awaits-length t s)) g h)
 
+  -- compacting
+  abbrev Compacts : List ℕ → Compacted → List ℕ → Type 0
+  Compacts lent a out = (a ≡ compactAnswer t s (length lent)) × (out ≡ compactBuffer t s lent)
+
+  pub compact-refused : (lent : List ℕ) → (r .number ≡ 0 → ⊥) → Compacts lent (notCompacted s (r .number) (r .place)) lent
+  unfolding compactAnswer compactBuffer
+  compact-refused lent h = rows-refused (compactedSheet t s) lent (notCompacted s) (wasCompacted t s) h
+
+  module _ (lent out : List ℕ) (n : ℕ) (e : r .number ≡ 0) (f : n ≡ length (compactedSheet t s)) (g : out ≡ written (compactedSheet t s) lent) where
+    pub compact-short : length lent < n → Compacts lent (notCompacted s 12 n) out
+    unfolding compactAnswer compactBuffer
+    compact-short h = rw f (rows-short (compactedSheet t s) lent (notCompacted s) (wasCompacted t s) e out g (omega arith))
+
+    pub compact-given : n ≤ length lent → (z : State) → z ≡ restarted t s → Compacts lent (record { answer = size.Size n; state = z }) out
+    unfolding compactAnswer compactBuffer
+    compact-given h z is = rw (f, is) (rows-given (compactedSheet t s) lent (notCompacted s) (wasCompacted t s) e out g (omega arith))
+
 -- an accepted call's table is well formed
 pub call-formed : (t : Table) (s : State) (r : Refusal) → r ≡ checked refuse (refuse 0 0) (callChecks t s) → r .number ≡ 0 → WellFormed t
 unfolding refusalOf without
 call-formed t s r told e = well-formed t (meets t (first-accepted (tableChecks t) (modeCheck (s .mode) ∷ fitChecks t s) refl (ap (λ (r : Refusal). r .number) (sym told) ∙ e)))
+
+-- and its state, restarted, has the counts of the compacted table as it is
+pub call-restarts : (t : Table) (s : State) (r : Refusal) → r ≡ checked refuse (refuse 0 0) (callChecks t s) → r .number ≡ 0 → restartOf s ≡ restarted t s
+unfolding refusalOf without
+call-restarts t s r told e =
+    let e′ : checked refuse (refuse 0 0) (callChecks t s) .number ≡ 0 = ap (λ (r : Refusal). r .number) (sym told) ∙ e in
+    let z : refusalOf t .number ≡ 0 = first-accepted (tableChecks t) (modeCheck (s .mode) ∷ fitChecks t s) refl e′ in
+    let f : Refusal = checked refuse (refuse 0 0) (stateChecks (t .m) (t .n) (t .terms) s) in
+    let fits = fits-accepted t s f refl (ap (λ (r : Refusal). r .number) (state-then t s (refusalOf t) refl z f refl) ∙ e′) .1 in
+    sym (restarted-is t (well-formed t (meets t z)) s fits)
 
 -- where no step was taken, the state is the one that was handed in
 pub state-back : (t : Table) (s : State) (row : ℕ) → stepAnswer t s row .ok ≡ false → stepAnswer t s row .state ≡ s

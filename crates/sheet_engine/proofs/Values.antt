@@ -34,12 +34,14 @@ use Rattle.state.specs.declared.State.{State}
 use Rattle.state.specs.declared.StepKind.the-variants as kind
 use Rattle.moves.specs.Steps.{modeOf, marksOf, linksOf, nodes, turnBy, turnAt, kindOf, kindBy, kindTurned, kindAt, isSome, hasStep, listedOf}
 use Rattle.moves.specs.Standing.{waitingOf}
+use Rattle.compacted.specs.Compacted.{compactedSheet}
 use Rattle.engine.specs.declared.Stepped.{Stepped}
 use Rattle.engine.specs.ByValue.{takenAnswer}
 use Rattle.verdict.specs.Verdict.{verdictOf}
+use Rattle.sheet_engine.specs.declared.Compacted.{Compacted}
 use Rattle.sheet_engine.specs.declared.VerdictAnswer.the-variants.{Refused}
 use Rattle.sheet_engine.specs.declared.StandingAnswer.the-variants as standing
-use Rattle.sheet_engine.specs.Answers.{given, verdictAnswer, callChecks, listChecks, listAnswer, standingOf, standingChecks, standingAnswer, waitsAnswer, kindAnswer, notTaken, stepAnswer}
+use Rattle.sheet_engine.specs.Answers.{given, verdictAnswer, callChecks, listChecks, listAnswer, standingOf, standingChecks, standingAnswer, waitsAnswer, kindAnswer, notTaken, stepAnswer, compactChecks, notCompacted, wasCompacted, compactAnswer}
 use Rattle.sheet_engine.specs.Values.{VerdictValues, verdictValues, SheetValues, sheetValues, SizeValues, sizeValues, StandingValues, standingValues, StepValues, stepValues, shownBy, shown, rowCheck, rowChecks, Answers}
 use Rattle.sheet_engine.proofs.Promises.{given-unrefused}
 use Rattle.sheet_engine.proofs.Steps.{no-kind}
@@ -70,7 +72,7 @@ pub read-answers : (s : List ℕ) → Answers (λ (v : SheetValues). v .refusal)
 unfolding readOf without
 read-answers s = rw (checked-map sheetValues sheet.Refused (sheet.Sheet (headOf s)) (sheetChecks s)) (answers _ _ _ (λ n p. refl) refl (sheetChecks s) refl)
 
--- writing, listing, what the rows wait for
+-- writing, listing, what the rows wait for, compacting
 abbrev SizeAnswers : ℕ → List Check → SizeAnswer → Type 0
 SizeAnswers n cs a = Answers (λ (v : SizeValues). v .refusal) (λ n p. sizeValues (size.Refused n p)) (sizeValues (size.Size n)) cs (sizeValues a)
 
@@ -88,6 +90,10 @@ list-answers t s lent = size-answers (length (listedOf t s)) (listChecks t s len
 pub waits-answers : (t : Table) (s : State) (lent : ℕ) → SizeAnswers (length (waitingOf t s)) (standingChecks t s lent) (waitsAnswer t s lent)
 unfolding waitsAnswer without
 waits-answers t s lent = size-answers (length (waitingOf t s)) (standingChecks t s lent) refl
+
+pub compact-answers : (t : Table) (s : State) (lent : ℕ) → SizeAnswers (length (compactedSheet t s)) (compactChecks t s lent) (compactAnswer t s lent .answer)
+unfolding compactAnswer without
+compact-answers t s lent = rw (checked-map (λ (c : Compacted). c .answer) (notCompacted s) (wasCompacted t s) (compactChecks t s lent)) (size-answers (length (compactedSheet t s)) (compactChecks t s lent) refl)
 
 pub verdict-answers : (t : Table) → Answers (λ (v : VerdictValues). v .refusal) (λ n p. verdictValues (Refused n p)) (verdictValues (given (verdictOf t))) (tableChecks t) (verdictValues (verdictAnswer t))
 unfolding verdictAnswer without

@@ -17,6 +17,7 @@ use Rattle.state.specs.declared.StepKind.the-variants as kind
 use Rattle.moves.specs.Steps.{listedOf, kindAt, startOf}
 use Rattle.moves.specs.Standing.{joinsOf, waitingOf, awaitsOf}
 use Rattle.moves.specs.Fits.{modeCheck, fitChecks}
+use Rattle.compacted.specs.Compacted.{compactedSheet, restarted}
 use Rattle.engine.specs.declared.Stepped.{Stepped}
 use Rattle.engine.specs.ByValue.{takenAnswer}
 use Rattle.verdict.specs.declared.Verdict.{Verdict}
@@ -27,6 +28,7 @@ use Rattle.sheet_engine.specs.declared.VerdictAnswer.the-variants.{Pass,
 use Rattle.sheet_engine.specs.declared.StandingAnswer.{StandingAnswer}
 use Rattle.sheet_engine.specs.declared.StandingAnswer.the-variants as standing
 use Rattle.sheet_engine.specs.declared.Started.{Started}
+use Rattle.sheet_engine.specs.declared.Compacted.{Compacted}
 
 -- the verdict: the table's checks, then pass or fail
 unfoldable pub given : Verdict → VerdictAnswer
@@ -108,3 +110,19 @@ notTaken s number place = record { ok = false; answer = kind.Refused number plac
 
 unfoldable pub stepAnswer : Table → State → ℕ → Stepped
 stepAnswer t s row = checked (notTaken s) (takenAnswer t s row) (callChecks t s)
+
+-- Document 02, request 8: "make the compacted sheet", its bytes to a lent buffer, "with it a state": 12 as in writing
+abbrev pub compactChecks : Table → State → ℕ → List Check
+compactChecks t s lent = callChecks t s ++ (room (length (compactedSheet t s)) lent ∷ [])
+
+abbrev pub notCompacted : State → ℕ → ℕ → Compacted
+notCompacted s number place = record { answer = size.Refused number place; state = s }
+
+abbrev pub wasCompacted : Table → State → Compacted
+wasCompacted t s = record { answer = size.Size (length (compactedSheet t s)); state = restarted t s }
+
+unfoldable pub compactAnswer : Table → State → ℕ → Compacted
+compactAnswer t s lent = checked (notCompacted s) (wasCompacted t s) (compactChecks t s lent)
+
+unfoldable pub compactBuffer : Table → State → List ℕ → List ℕ
+compactBuffer t s lent = checked (λ number place. lent) (written (compactedSheet t s) lent) (compactChecks t s (length lent))

@@ -7,7 +7,7 @@ ghost use Rattle.sheet.specs.Rules.{refuse, refusalOf};
 ghost use Rattle.sheet.specs.Sheet.{settingsOf, termsOf, conditionsOf};
 ghost use Rattle.moves.specs.Steps.{Sized};
 ghost use Rattle.codec.specs.Answers.{Bytes, readOf, partOf, writeOf, writtenOf};
-ghost use Rattle.sheet_engine.specs.Answers.{verdictAnswer, startAnswer, actsLeft, linksUnset, callChecks, listAnswer, listBuffer, standingAnswer, standingBuffer, waitsAnswer, waitsBuffer, kindAnswer, stepAnswer};
+ghost use Rattle.sheet_engine.specs.Answers.{verdictAnswer, startAnswer, actsLeft, linksUnset, callChecks, listAnswer, listBuffer, standingAnswer, standingBuffer, waitsAnswer, waitsBuffer, kindAnswer, stepAnswer, compactAnswer, compactBuffer};
 use codec::SheetAnswer;
 use codec::SizeAnswer;
 use engine::Stepped;
@@ -40,6 +40,12 @@ pub enum StandingAnswer {
 pub struct Started {
     pub number: u8,
     pub place: usize,
+    pub state: State,
+}
+
+// The size of the compacted sheet, or number and place; and the state that goes with the sheet, or the state as it was.
+pub struct Compacted {
+    pub answer: SizeAnswer,
     pub state: State,
 }
 
@@ -260,4 +266,32 @@ pub fn step_in_place(state: &mut State, h: Head, ts: &[u8], cs: &[u8], row: usiz
         *state = next.state;
     }
     next.answer
+}
+
+// The compacted sheet of a table and a state, its bytes to a lent buffer, and the state in which it goes on; 12 with the size that is needed. A refusal gives the state back as it was.
+pub fn compact(s: State, h: Head, ts: &[u8], cs: &[u8], out: &mut [u8]) -> Compacted
+    ensures { λ r. ⌜ (r ≡ compactAnswer (tableOf h (now (ts .entry)) (now (cs .entry))) s (length (now (out .entry)))) × (now (out .exit) ≡ compactBuffer (tableOf h (now (ts .entry)) (now (cs .entry))) s (now (out .entry))) ⌝ }
+    ensures sized { λ r. ⌜ Sized s ⌝ }
+{
+    let refusal = judge_state(s, h, ts, cs);
+    let number = refusal.number;
+    let place = refusal.place;
+    if number != 0 {
+        return Compacted {
+            answer: SizeAnswer::Refused(number, place),
+            state: s,
+        };
+    }
+    let room = out.len();
+    let size = collect::write(h, ts, cs, s, out);
+    if room < size {
+        return Compacted {
+            answer: SizeAnswer::Refused(12, size),
+            state: s,
+        };
+    }
+    Compacted {
+        answer: SizeAnswer::Size(size),
+        state: s.restart(),
+    }
 }

@@ -29,14 +29,6 @@ fn read_told(file: i32) -> Told {
     }
 }
 
-// The state that the step has to hand back: that of the case; where it is refused, the one that it was given.
-fn state_after(file: i32, number: u8, s: State) -> State {
-    if number != 0 {
-        return s;
-    }
-    cases::read_state(file)
-}
-
 fn left_agrees(answer: StepKind, state: State, expected: Told, after: State) -> bool {
     same_told(told_kind(answer), expected) & cases::same_state(state, after)
 }
@@ -44,7 +36,7 @@ fn left_agrees(answer: StepKind, state: State, expected: Told, after: State) -> 
 // Asking for the kind of a step, taking it, and taking it on a lent record answer alike.
 fn step_agrees(file: i32, s: State, h: Head, ts: &[u8], cs: &[u8], row: usize) -> bool {
     let expected = read_told(file);
-    let after = state_after(file, expected.number, s);
+    let after = cases::state_after(file, expected.number, s);
     let kind = sheet_engine::step_kind(s, h, ts, cs, row);
     let taken = sheet_engine::take_step(s, h, ts, cs, row);
     let answer = taken.answer;
