@@ -29,7 +29,6 @@ use Rattle.flags.specs.Flags.{flagged}
 use Rattle.flags.proofs.Shown.{shown}
 use Rattle.front.specs.Asked.{ShowsLive}
 use Rattle.front.proofs.Asking.{asked-live}
-use Rattle.collect.specs.declared.Kept.{Kept}
 use Rattle.collect.specs.Tops.{standing}
 use Rattle.collect.specs.Kept.{Tells, keptBy, newBytes, newTerms, LaidIn}
 use Rattle.collect.proofs.Stays.{kept-said, standing-said}
@@ -91,9 +90,9 @@ module _ (t : Table) (tree : Tree (rowAt (t .terms)) (t .n)) (s : State) (L T N 
       ap rowBytes (same-standing k (t .n) (rowAt (t .terms) k) (marksOf s k) (λ j. getD N j 0) (rank t s) (λ j. getD T j 0) (λ j. root (R j)) (tree .kids k h) number-is ∙
       ap (renumbered (rank t s)) (sym (standing-said (t .terms) (t .n) (tree .kids) (tree .once) (marksOf s) k (tree .some-row) e)))
 
-  pub terms-are : (r : Kept) → LaidIn (count (keptBy L T) (t .n)) (newTerms (t .terms) (t .n) (marksOf s) L T N) r → LaidIn (rank t s (t .n)) (compactedTerms t s) r
+  pub terms-are : (r : ℕ) (rows : List ℕ) → LaidIn (count (keptBy L T) (t .n)) (newTerms (t .terms) (t .n) (marksOf s) L T N) r rows → LaidIn (rank t s (t .n)) (compactedTerms t s) r rows
   unfolding compactedTerms
-  terms-are r g = record {
+  terms-are r rows g = record {
     size = g .size;
     counted = g .counted ∙ count-is (t .n) (omega arith);
     begins =

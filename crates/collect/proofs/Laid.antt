@@ -13,7 +13,6 @@ use Rattle.laws.specs.Listed.{listed}
 use Rattle.laws.proofs.Sums.{count-zero, count-more}
 use Rattle.laws.proofs.Listed.{left, left-hit, left-miss, left-end}
 use Rattle.layout.specs.Bytes.{laid}
-use Rattle.collect.specs.declared.Kept.{Kept}
 use Rattle.collect.specs.Kept.{LaidIn}
 
 -- four stores are a copy of four bytes
@@ -56,10 +55,10 @@ module _ (bytes : ℕ → List ℕ) (p : ℕ → Bool) (n : ℕ) where
             (ap (λ (xs : List ℕ). take (k * 4) out ++ laid bytes xs) (sym (left-hit p n i h e)) ∙ g .so-far)));
       }
 
-  pub laid-all : (i : ℕ) (r : Kept) → i ≡ n → Laid bytes p n i (r .count) (r .rows) → LaidIn (count p n) (laid bytes (listed p 0 n)) r
+  pub laid-all : (i k : ℕ) (out : List ℕ) → i ≡ n → Laid bytes p n i k out → LaidIn (count p n) (laid bytes (listed p 0 n)) k out
   unfolding laid
-  laid-all i r e g = record {
+  laid-all i k out e g = record {
     size = g .size;
     counted = g .counted ∙ ap (count p) e;
-    begins = sym (append-nil (take (r .count * 4) (r .rows))) ∙ (ap (λ (xs : List ℕ). take (r .count * 4) (r .rows) ++ laid bytes xs) (sym (left-end p n i (omega arith))) ∙ g .so-far);
+    begins = sym (append-nil (take (k * 4) out)) ∙ (ap (λ (xs : List ℕ). take (k * 4) out ++ laid bytes xs) (sym (left-end p n i (omega arith))) ∙ g .so-far);
   }

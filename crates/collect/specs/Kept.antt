@@ -15,7 +15,6 @@ use Rattle.layout.specs.Bytes.{rowBytes, laid}
 use Rattle.state.specs.declared.State.{State}
 use Rattle.compacted.specs.Compacted.{rank, compactedTerms}
 use Rattle.flags.specs.Flags.{flagged}
-use Rattle.collect.specs.declared.Kept.{Kept}
 use Rattle.collect.specs.Tops.{standing}
 
 -- the table tells a function's value at each number from a on, below b
@@ -36,11 +35,11 @@ abbrev pub newTerms : List ℕ → ℕ → Marks → List ℕ → List ℕ → L
 newTerms ts n μ live tops numbers = laid (λ k. newBytes (rowAt ts k) (μ k) tops numbers) (listed (keptBy live tops) 0 n)
 
 -- so many rows, with these bytes: the array begins with them
-pub record LaidIn (n : ℕ) (bytes : List ℕ) (r : Kept) : Type 0 where
-  pub size : length (r .rows) ≡ 1024
-  pub counted : r .count ≡ n
-  pub begins : take (r .count * 4) (r .rows) ≡ bytes
+pub record LaidIn (n : ℕ) (bytes : List ℕ) (count : ℕ) (rows : List ℕ) : Type 0 where
+  pub size : length rows ≡ 1024
+  pub counted : count ≡ n
+  pub begins : take (count * 4) rows ≡ bytes
 
 -- the terms of the compacted table; condition rows are not asked, so that they may be any
-abbrev pub Keeps : Head → List ℕ → State → Kept → Type 0
-Keeps h ts s r = (cs : List ℕ) → LaidIn (rank (tableOf h ts cs) s (h .n)) (compactedTerms (tableOf h ts cs) s) r
+abbrev pub Keeps : Head → List ℕ → State → ℕ → List ℕ → Type 0
+Keeps h ts s count rows = (cs : List ℕ) → LaidIn (rank (tableOf h ts cs) s (h .n)) (compactedTerms (tableOf h ts cs) s) count rows

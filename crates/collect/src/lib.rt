@@ -20,12 +20,6 @@ ghost use Rattle.collect.specs.Kept.{Tells, keptBy, newBytes, newTerms, 
 use sheet::Head;
 use state::State;
 
-// The term rows of the compacted table, and how many.
-struct Kept {
-    rows: [u8; 1024],
-    count: usize,
-}
-
 // The top of an ACT, OUT or JOIN: of a passed one its child's.
 fn top_step(row: u8, child: u8, mark: u8, tops: &[u8; 256]) -> u8
     ensures { λ r. ⌜ r ≡ cond (passedBy (stand mark)) (getD (now (tops .entry)) child 0) row ⌝ }
@@ -166,7 +160,7 @@ fn put(out: &mut [u8; 1024], at: usize, row: [u8; 4])
     out[at + 3] = row[3];
 }
 
-// The rows that are kept, in their old order.
+// The rows that are kept, in their old order, into the array; and how many.
 fn new_rows(
     ts: &[u8],
     n: usize,
@@ -174,35 +168,35 @@ fn new_rows(
     live: &[u8; 256],
     tops: &[u8; 256],
     numbers: &[u8; 256],
-) -> Kept
-    requires { ⌜ (n ≤ 256) × (n * 4 ≤ length (now ts)) ⌝ }
-    ensures { λ r. ⌜ LaidIn (count (keptBy (now (live .entry)) (now (tops .entry))) n) (newTerms (now (ts .entry)) n (λ k. getD (now (marks .entry)) k 0) (now (live .entry)) (now (tops .entry)) (now (numbers .entry))) r ⌝ }
+    out: &mut [u8; 1024],
+) -> usize
+    requires { ⌜ ((n ≤ 256) × (n * 4 ≤ length (now ts))) × (length (now out) ≡ 1024) ⌝ }
+    ensures { λ r. ⌜ LaidIn (count (keptBy (now (live .entry)) (now (tops .entry))) n) (newTerms (now (ts .entry)) n (λ k. getD (now (marks .entry)) k 0) (now (live .entry)) (now (tops .entry)) (now (numbers .entry))) r (now (out .exit)) ⌝ }
 {
-    let mut rows = [0; 1024];
     let mut count = 0;
     let mut i = 0;
     while i < n {
         if is_kept(live, tops, i) {
             let row = new_row(ts, i, marks[i], tops, numbers);
-            put(&mut rows, count * 4, row);
+            put(out, count * 4, row);
             count += 1;
             i += 1;
         } else {
             i += 1;
         }
     }
-    Kept { rows, count }
+    count
 }
 
-// The terms of the compacted table, and how many rows they are.
-fn kept_rows(h: Head, ts: &[u8], s: State) -> Kept
-    requires { ⌜ RowsLent (now ts) (h .n) ⌝ }
-    ensures { λ r. ⌜ Keeps h (now (ts .entry)) s r ⌝ }
+// The terms of the compacted table into the array, and how many rows they are.
+fn kept_rows(h: Head, ts: &[u8], s: State, out: &mut [u8; 1024]) -> usize
+    requires { ⌜ RowsLent (now ts) (h .n) × (length (now out) ≡ 1024) ⌝ }
+    ensures { λ r. ⌜ Keeps h (now (ts .entry)) s r (now (out .exit)) ⌝ }
 {
     let live = front::ask(front::LIVE, ts, h.n, &s.marks);
     let tops = tops(ts, h.n, &s.marks);
     let numbers = ranks(&live, &tops, h.n);
-    new_rows(ts, h.n, &s.marks, &live, &tops, &numbers)
+    new_rows(ts, h.n, &s.marks, &live, &tops, &numbers, out)
 }
 
 // Its evaluation: 2 for strict, 3 for lazy; a table that is compacted keeps its own.
@@ -221,12 +215,12 @@ pub fn write(h: Head, ts: &[u8], cs: &[u8], s: State, out: &mut [u8]) -> usize
     requires { ⌜ WellFormed (tableOf h (now ts) (now cs)) ⌝ }
     ensures { λ r. ⌜ (r ≡ length (compactedSheet (tableOf h (now (ts .entry)) (now (cs .entry))) s)) × (now (out .exit) ≡ written (compactedSheet (tableOf h (now (ts .entry)) (now (cs .entry))) s) (now (out .entry))) ⌝ }
 {
-    let kept = kept_rows(h, ts, s);
-    let rows = kept.rows;
+    let mut rows = [0; 1024];
+    let count = kept_rows(h, ts, s, &mut rows);
     let head = Head {
         evaluation: compacted_by(h.evaluation),
         m: h.m,
-        n: kept.count,
+        n: count,
         k: h.k,
     };
     codec::lay(head, &rows, cs, out)

@@ -27,11 +27,11 @@ use Rattle.sheet_engine.proofs.Values.{all-held, read-answers, write-answers, v
 use Rattle.promises.specs.Sources.{upTo7, Thirteen}
 use Rattle.promises.proofs.Refused.{place-fails, refused-there, one-out, first-fails, Reads, values-told}
 
--- "A sheet in which a JOIN's condition reaches a link with no OUT row is to be refused": of an accepted table, each link that a JOIN's condition reaches has one
+-- "A sheet in which a JOIN's condition reaches a link with no OUT row is to be refused": of an accepted table, each link that a JOIN's condition reaches has one, unless the sheet was compacted (request 8)
 pub accepted-sourced : (t : Table) → refusalOf t .number ≡ 0 → Sourced t
 accepted-sourced t e = sourced-joins t (meets t e)
 
--- "the sheets still accepted": a table is accepted exactly if it meets the checks of document 01 and each link that a JOIN's condition reaches has an OUT row
+-- "the sheets still accepted": a table is accepted exactly if it meets the checks of document 01 and each link that a JOIN's condition wants has an OUT row: each that it reaches, and of a compacted sheet none
 pub accepted-exactly : (t : Table) → (refusalOf t ≡ refuse 0 0) ↔ (AllHold (upTo7 t ++ from8 t) × Sourced t)
 unfolding refusalOf AllHold without
 accepted-exactly t = (
@@ -41,7 +41,7 @@ accepted-exactly t = (
   λ (rest, s). all-hold refuse (refuse 0 0) (tableChecks t) (one-out (upTo7 t) (sourced t) (from8 t) .1 (rest, all-sourced t (rest .1 .1 .1 .0) (rest .1 .1 .0) .1 s)),
 )
 
--- a row breaks 13 exactly if it is a JOIN whose condition reaches a link with no OUT row
+-- a row breaks 13 exactly if it is a JOIN whose condition wants a link with no OUT row
 broken : (t : Table) → AllHold (upTo7 t) → (j : ℕ) → j < t .n → (sourced t .rule j ≡ false) ↔ UnsourcedJoin t j
 unfolding AllHold
 broken t hold = row-unsourced t (hold .1 .1 .1 .0) (hold .1 .1 .0)

@@ -17,7 +17,7 @@ upTo7 t =
     tree (t .n) (t .terms) ∷
     oneSource (t .m) (t .n) (t .terms) ∷ []
 
--- they hold, and this is the lowest of the JOIN rows whose condition reaches a link with no OUT row
+-- they hold, and this is the lowest of the JOIN rows whose condition reaches a link with no OUT row; a compacted sheet has none, by request 8
 pub record Thirteen (t : Table) (place : ℕ) : Type 0 where
   pub earlier-hold : AllHold (upTo7 t)
   pub inside : place < t .n

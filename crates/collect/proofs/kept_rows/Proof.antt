@@ -17,10 +17,10 @@ new-rows-requires c κs = search needs
 
 returns : tie.Need-returns
 returns c = λ cs.
-    let r = c .before .before .before .before .before .before in
+    let r = c .before .before .before .before .before .before .before in
     let t = r .before .before .before in
     let a = t .before .before .before in
-    terms-are _ (a .before .before .before .before .pre .1 .1) _ _ _ _ (a .ask .ensures) (t .tops .ensures) (r .ranks .ensures) _ (c .new-rows .ensures)
+    terms-are _ (a .before .before .before .before .pre .0 .1 .1) _ _ _ _ (a .ask .ensures) (t .tops .ensures) (r .ranks .ensures) _ _ (c .new-rows .ensures)
 
 pub kept-rows-spec : {M : Type 1} → statement M
 kept-rows-spec = tie.close (tie.spec ask-requires tops-requires ranks-requires new-rows-requires returns)

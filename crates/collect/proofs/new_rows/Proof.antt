@@ -1,5 +1,5 @@
 use Prim.Native.Nat.{_-_, _≤_}
-use mathlib.Core.Path.{refl, sym, _∙_}
+use mathlib.Core.Path.{sym, _∙_}
 use native.Mathlib.Omega.{arith}
 use lib.ListN.{getD}
 use Rattle.sheet.specs.Table.{rowAt}
@@ -10,13 +10,13 @@ use Rattle.collect.proofs.new_rows.Statement.{statement}
 use Rattle.collect.proofs.new_rows.Tie as tie
 
 abbrev Inv-loop : tie.InvT-loop
-Inv-loop ts n marks live tops numbers rows₀ count₀ i₀ rows count i = (i ≤ n) × ((count ≤ i) × Laid (λ k. newBytes (rowAt ts k) (getD marks k 0) tops numbers) (keptBy live tops) n i count rows)
+Inv-loop ts n marks live tops numbers out₀ count₀ i₀ out count i = (i ≤ n) × ((count ≤ i) × Laid (λ k. newBytes (rowAt ts k) (getD marks k 0) tops numbers) (keptBy live tops) n i count out)
 
 abbrev μ-loop : tie.MeasureT-loop
-μ-loop ts n marks live tops numbers rows₀ count₀ i₀ rows count i = n - i
+μ-loop ts n marks live tops numbers out₀ count₀ i₀ out count i = n - i
 
 loop-holds : tie.Need-loop-holds Inv-loop μ-loop
-loop-holds c = (omega arith, (omega arith, laid-none _ _ _ _ refl))
+loop-holds c = (omega arith, (omega arith, laid-none _ _ _ _ (c .before .pre .1)))
 
 is-kept-requires : tie.Need-is-kept-requires Inv-loop μ-loop
 is-kept-requires c κs = omega arith
@@ -47,7 +47,7 @@ loop-again c =
     let l = c .before .before .before .before .before .before .before .loop in
     let kept = sym (c .before .before .before .before .before .is-kept .ensures) ∙ c .before .before .before .before .if1 .taken in
     let row = c .before .before .new-row .ensures in
-    (omega arith, (omega arith, rw (c .put .ensures) (laid-put _ _ _ (l .i) (l .count) (l .rows) _ (omega arith) (omega arith) kept row (new-four _ _ _ _ _ row) (l .inv .1 .1))))
+    (omega arith, (omega arith, rw (c .put .ensures) (laid-put _ _ _ (l .i) (l .count) (l .out) _ (omega arith) (omega arith) kept row (new-four _ _ _ _ _ row) (l .inv .1 .1))))
 
 add-i-2 : tie.Need-add-i-2 Inv-loop μ-loop
 add-i-2 c = omega arith
@@ -58,10 +58,10 @@ loop-less-2 c = omega arith
 loop-again-2 : tie.Need-loop-again-2 Inv-loop μ-loop
 loop-again-2 c =
     let l = c .before .before .before .loop in
-    (omega arith, (omega arith, laid-miss _ _ _ (l .i) (l .count) (l .rows) (omega arith) (sym (c .before .is-kept .ensures) ∙ c .if1 .left) (l .inv .1 .1)))
+    (omega arith, (omega arith, laid-miss _ _ _ (l .i) (l .count) (l .out) (omega arith) (sym (c .before .is-kept .ensures) ∙ c .if1 .left) (l .inv .1 .1)))
 
 returns : tie.Need-returns Inv-loop μ-loop
-returns c = let l = c .before .loop in laid-all _ _ _ (l .i) _ (omega arith) (l .inv .1 .1)
+returns c = let l = c .before .loop in laid-all _ _ _ (l .i) _ _ (omega arith) (l .inv .1 .1)
 
 pub new-rows-spec : {M : Type 1} → statement M
 new-rows-spec =

@@ -1,3 +1,5 @@
+use mathlib.Core.Path.{sym}
+use mathlib.Core.List.{[]}
 use borrow.Author.Needs.{needs}
 use Rattle.sheet.specs.Table.{tableOf}
 use Rattle.collect.proofs.Writing.{in-range, wrote}
@@ -11,18 +13,23 @@ compacted-by-requires : tie.Need-compacted-by-requires
 compacted-by-requires c κs = search needs
 
 slice-aggregate-lay : tie.Need-slice-aggregate-lay
-slice-aggregate-lay c = search needs
+slice-aggregate-lay c = sym (c .before .before .kept-rows .ensures [] .size)
 
 lay-requires : tie.Need-lay-requires
-lay-requires c κs = let a = c .before .before .before .before .before .before .before .before .args in
-    in-range (tableOf (a .h) (a .ts .now) (a .cs .now)) (c .before .before .before .before .before .before .before .before .pre) (a .s) _ (c .before .before .before .before .kept-rows .ensures (a .cs .now)) _ (c .before .before .compacted-by .ensures)
+lay-requires c κs =
+    let k = c .before .before .before in
+    let b = k .before .before .before .before .before in let a = b .args in
+    in-range (tableOf (a .h) (a .ts .now) (a .cs .now)) (b .pre) (a .s) _ _ (k .kept-rows .ensures (a .cs .now)) _ (c .before .before .compacted-by .ensures)
 
 same-length : tie.Need-same-length
 same-length c = search needs
 
 returns : tie.Need-returns
-returns c = let a = c .before .before .before .before .before .before .before .before .before .before .before .args in
-    wrote (tableOf (a .h) (a .ts .now) (a .cs .now)) (c .before .before .before .before .before .before .before .before .before .before .before .pre) (a .s) _ (c .before .before .before .before .before .before .before .kept-rows .ensures (a .cs .now)) _ (c .before .before .before .before .before .compacted-by .ensures) (a .out .now) _ _ (c .before .before .lay .ensures .0) (c .before .before .lay .ensures .1)
+returns c =
+    let l = c .before .before in
+    let k = l .before .before .before .before in
+    let b = k .before .before .before .before .before in let a = b .args in
+    wrote (tableOf (a .h) (a .ts .now) (a .cs .now)) (b .pre) (a .s) _ _ (k .kept-rows .ensures (a .cs .now)) _ (l .before .before .before .compacted-by .ensures) (a .out .now) _ _ (l .lay .ensures .0) (l .lay .ensures .1)
 
 pub write-spec : {M : Type 1} → statement M
 write-spec =
