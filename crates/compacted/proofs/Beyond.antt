@@ -1,5 +1,5 @@
 -- Places beyond the rows are no part of a table: it is compacted as the table without them. Assumes nothing.
-use Prim.Native.Nat.{ℕ, _*_}
+use Prim.Native.Nat.{_*_}
 use mathlib.Core.Path.{_≡_, refl}
 use native.Mathlib.Omega.{arith}
 use lib.Seq.{take-take}

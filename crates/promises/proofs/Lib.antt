@@ -14,3 +14,4 @@ pub mod Verdict
 pub mod Calls
 pub mod Alike
 pub mod Fresh
+pub mod Matched
