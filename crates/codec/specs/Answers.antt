@@ -41,7 +41,7 @@ pub record Framed (s : List ℕ) : Type 0 where
   pub long : 22 ≤ length s
   pub sound : Holds (contents s)
 
--- the settings and numbers of a table are in their ranges, and its rows are lent
+-- what laying a table out asks: m, n and k are not over their limits, and the rows are lent
 pub record InRange (h : Head) (ts cs : List ℕ) : Type 0 where
   pub few-links : h .m ≤ 64
   pub few-terms : h .n ≤ 256

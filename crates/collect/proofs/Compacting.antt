@@ -2,7 +2,7 @@
 use Prim.Native.Nat.{ℕ, _<_, _≤_}
 use mathlib.Core.Path.{_≡_, refl, sym, _∙_, ap, ap₂}
 use mathlib.Core.Bool.{Bool, true, false, cond}
-use mathlib.Core.List.{List, [], _∷_, _++_, List·Memᴰ, List·Memᴰ·head, List·Memᴰ·tail}
+use mathlib.Core.List.{List}
 use native.Mathlib.Omega.{arith}
 use lib.ListN.{getD}
 use borrow.Author.Tests.{eqb-true, eq-eqb}
@@ -21,6 +21,7 @@ use Rattle.sheet.specs.Table.{Table, rowAt}
 use Rattle.layout.specs.Rows.{root, renumbered}
 use Rattle.layout.specs.Bytes.{rowBytes, laid}
 use Rattle.layout.proofs.Rows.{root-rows}
+use Rattle.layout.proofs.Bytes.{laid-same}
 use Rattle.state.specs.declared.State.{State}
 use Rattle.moves.specs.Steps.{marksOf, remainderIn}
 use Rattle.moves.specs.Fits.{live}
@@ -29,29 +30,24 @@ use Rattle.flags.specs.Flags.{flagged}
 use Rattle.flags.proofs.Shown.{shown}
 use Rattle.front.specs.Asked.{ShowsLive}
 use Rattle.front.proofs.Asking.{asked-live}
-use Rattle.collect.specs.Tops.{standing}
+use Rattle.collect.specs.Tops.{keptAs}
 use Rattle.collect.specs.Kept.{Tells, keptBy, newBytes, newTerms, LaidIn}
-use Rattle.collect.proofs.Stays.{kept-said, standing-said}
+use Rattle.collect.proofs.Stays.{kept-said, kept-as-said}
 
 -- only the children are asked
-same-standing : (k n : ℕ) (N : Row) (m : ℕ) (f f′ g g′ : ℕ → ℕ) → Kids k n N → ((c : ℕ) → c < n → f (g c) ≡ f′ (g′ c)) → renumbered f (standing N m g) ≡ renumbered f′ (standing N m g′)
-unfolding renumbered standing Kids
-same-standing k n NIL m f f′ g g′ h e = refl
-same-standing k n (PREFIX π c) m f f′ g g′ h e = at (waitsBy (stand m))
+same-kept-as : (k n : ℕ) (N : Row) (m : ℕ) (f f′ g g′ : ℕ → ℕ) → Kids k n N → ((c : ℕ) → c < n → f (g c) ≡ f′ (g′ c)) → renumbered f (keptAs N m g) ≡ renumbered f′ (keptAs N m g′)
+unfolding renumbered keptAs Kids
+same-kept-as k n NIL m f f′ g g′ h e = refl
+same-kept-as k n (PREFIX π c) m f f′ g g′ h e = at (waitsBy (stand m))
   where
     at : (b : Bool) → renumbered f (cond b (PREFIX π (g c)) NIL) ≡ renumbered f′ (cond b (PREFIX π (g′ c)) NIL)
     at true = ap (PREFIX π) (e c (h .1))
     at false = refl
-same-standing k n (BRANCH κ p q) m f f′ g g′ h e = ap₂ (BRANCH κ) (e p (h .0 .1)) (e q (h .1 .1))
-
-laid-same : (f g : ℕ → List ℕ) (ks : List ℕ) → ((k : ℕ) → List·Memᴰ k ks → f k ≡ g k) → laid f ks ≡ laid g ks
-unfolding laid
-laid-same f g [] h = refl
-laid-same f g (k ∷ ks) h = ap₂ _++_ (h k (List·Memᴰ·head refl)) (laid-same f g ks (λ j m. h j (List·Memᴰ·tail m)))
+same-kept-as k n (BRANCH κ p q) m f f′ g g′ h e = ap₂ (BRANCH κ) (e p (h .0 .1)) (e q (h .1 .1))
 
 -- from what the three passes tell
 module _ (t : Table) (tree : Tree (rowAt (t .terms)) (t .n)) (s : State) (L T N : List ℕ)
-    (lives : ShowsLive (t .terms) (t .n) (marksOf s) L) (tops : Tells (λ j. root (remainderIn (t .terms) (t .n) (marksOf s) j)) 0 (t .n) T) (numbers : Tells (count (keptBy L T)) 0 (t .n) N) where
+    (lives : ShowsLive (t .terms) (t .n) (marksOf s) L) (tops : Tells (λ j. root (remainderIn (t .terms) (t .n) (marksOf s) j)) 0 (t .n) T) (ranks : Tells (count (keptBy L T)) 0 (t .n) N) where
   abbrev R : ℕ → Process
   R = remainderIn (t .terms) (t .n) (marksOf s)
 
@@ -70,7 +66,7 @@ module _ (t : Table) (tree : Tree (rowAt (t .terms)) (t .n)) (s : State) (L T N 
       (λ e. back (sym (live-is k h) ∙ and-l _ _ e, sym (top-is k h) ∙ eqb-true (getD T k 0) k (and-r (flagged L k) _ e)))
       (λ e. let (a, b) = to e in rw (live-is k h, top-is k h, a) (eq-eqb (root (R k)) k b))
 
-  -- ... their numbers ...
+  -- ... their ranks ...
   count-is : (k : ℕ) → k ≤ t .n → count (keptBy L T) k ≡ rank t s k
   unfolding rank
   count-is k h = count-same (keptBy L T) (isKept t s) k (λ i l. kept-is i (omega arith))
@@ -78,17 +74,17 @@ module _ (t : Table) (tree : Tree (rowAt (t .terms)) (t .n)) (s : State) (L T N 
   top-below : (c : ℕ) → c < t .n → root (R c) < t .n
   top-below c h = rows-above (rowAt (t .terms)) (t .n) (tree .kids) c h (root (R c)) (contra (remainder-rows (marksOf s) (term (rowAt (t .terms)) (t .n) c) (root (R c))) (root-rows (R c))) .1
 
-  number-is : (c : ℕ) → c < t .n → getD N (getD T c 0) 0 ≡ rank t s (root (R c))
-  number-is c h =
+  rank-is : (c : ℕ) → c < t .n → getD N (getD T c 0) 0 ≡ rank t s (root (R c))
+  rank-is c h =
       let u : root (R c) < t .n = top-below c h in
-      ap (λ (x : ℕ). getD N x 0) (top-is c h) ∙ (numbers .at (root (R c)) (omega arith) u ∙ count-is (root (R c)) (omega arith))
+      ap (λ (x : ℕ). getD N x 0) (top-is c h) ∙ (ranks .at (root (R c)) (omega arith) u ∙ count-is (root (R c)) (omega arith))
 
   -- ... and their bytes
   row-is : (k : ℕ) → k < t .n → isKept t s k ≡ true → newBytes (rowAt (t .terms) k) (marksOf s k) T N ≡ rowBytes (keptRow t s k)
   unfolding newBytes keptRow isKept
   row-is k h e =
-      ap rowBytes (same-standing k (t .n) (rowAt (t .terms) k) (marksOf s k) (λ j. getD N j 0) (rank t s) (λ j. getD T j 0) (λ j. root (R j)) (tree .kids k h) number-is ∙
-      ap (renumbered (rank t s)) (sym (standing-said (t .terms) (t .n) (tree .kids) (tree .once) (marksOf s) k (tree .some-row) e)))
+      ap rowBytes (same-kept-as k (t .n) (rowAt (t .terms) k) (marksOf s k) (λ j. getD N j 0) (rank t s) (λ j. getD T j 0) (λ j. root (R j)) (tree .kids k h) rank-is ∙
+      ap (renumbered (rank t s)) (sym (kept-as-said (t .terms) (t .n) (tree .kids) (tree .once) (marksOf s) k (tree .some-row) e)))
 
   pub terms-are : (r : ℕ) (rows : List ℕ) → LaidIn (count (keptBy L T) (t .n)) (newTerms (t .terms) (t .n) (marksOf s) L T N) r rows → LaidIn (rank t s (t .n)) (compactedTerms t s) r rows
   unfolding compactedTerms

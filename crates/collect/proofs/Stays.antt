@@ -21,7 +21,7 @@ use Rattle.layout.proofs.Rows.{root-rows, here-prefix, under-prefix, here-branc
 use Rattle.moves.specs.Steps.{remainderIn}
 use Rattle.moves.specs.Fits.{live}
 use Rattle.moves.proofs.Clear.{live-root, live-rows, stands}
-use Rattle.collect.specs.Tops.{topBranch, topBy, standing}
+use Rattle.collect.specs.Tops.{topBranch, topBy, keptAs}
 
 nil-row : (i : ℕ) → rowIn (nil i) i ≡ NIL
 unfolding rowIn
@@ -92,7 +92,7 @@ module _ (ts : List ℕ) (n : ℕ) (kids : (i : ℕ) → i < n → Kids i n (row
   -- A KEPT ROW, from its row, its mark and the tops of its children
   module _ (k : ℕ) where
     abbrev Shown : ℕ → Row
-    Shown i = standing (rowAt ts i) (μ i) (λ j. root (R j))
+    Shown i = keptAs (rowAt ts i) (μ i) (λ j. root (R j))
 
     abbrev Is : Process → Type 0
     Is P = rows P k ≡ true → rowIn P k ≡ Shown k
@@ -101,13 +101,13 @@ module _ (ts : List ℕ) (n : ℕ) (kids : (i : ℕ) → i < n → Kids i n (row
     own-is i P h e = let z : k ≡ i = eqb-true k i e in rw z h
 
     mark-is : (i d : ℕ) (π : Prefix) → rowAt ts i ≡ PREFIX π d → (s : Stand) → stand (μ i) ≡ s → Distinct (afterMark s i π (R d)) → Is (R d) → Is (afterMark s i π (R d))
-    unfolding rows Distinct standing waitsBy
+    unfolding rows Distinct keptAs waitsBy
     mark-is i d π p waits q u f e = ⊎-elim (own-is i (prefix i π (R d)) (here-prefix i π (R d) ∙ rw (p, q) refl)) (λ x. under-prefix i π (R d) (u .0) k x ∙ f x) (or-true e)
     mark-is i d π p passed q u f e = f e
     mark-is i d π p dropped q u f e = own-is i (nil i) (nil-row i ∙ rw (p, q) refl) e
 
     open-is : (i a b : ℕ) (κ : Branching) → rowAt ts i ≡ BRANCH κ a b → (o : Open) → Distinct (afterTaken o i κ (R a) (R b)) → Is (R a) → Is (R b) → Is (afterTaken o i κ (R a) (R b))
-    unfolding rows Distinct standing
+    unfolding rows Distinct keptAs
     open-is i a b κ p both u f g e =
         ⊎-elim (own-is i (branch i κ (R a) (R b)) (here-branch i κ (R a) (R b) ∙ rw p refl))
         (λ x. ⊎-elim (λ x. under-left i κ (R a) (R b) (u .0) k x ∙ f x) (λ x. under-right i κ (R a) (R b) (u .1) k x (Apart·sym (u .2) k x) ∙ g x) (or-true x))
@@ -116,7 +116,7 @@ module _ (ts : List ℕ) (n : ℕ) (kids : (i : ℕ) → i < n → Kids i n (row
     open-is i a b κ p right u f g e = g e
 
     is-by : (i : ℕ) → ((j : ℕ) → i < j → j < n → Is (R j)) → (N : Row) → rowAt ts i ≡ N → Kids i n N → Distinct (remainderBy i N (μ i) R) → Is (remainderBy i N (μ i) R)
-    unfolding remainderBy Kids rows standing
+    unfolding remainderBy Kids rows keptAs
     is-by i ih NIL p c u e = own-is i (nil i) (nil-row i ∙ rw p refl) e
     is-by i ih (PREFIX π d) p c u e = mark-is i d π p (stand (μ i)) refl u (ih d (c .0) (c .1)) e
     is-by i ih (BRANCH κ a b) p c u e = open-is i a b κ p (open-branches κ (μ i)) u (ih a (c .0 .0) (c .0 .1)) (ih b (c .1 .0) (c .1 .1)) e
@@ -124,5 +124,5 @@ module _ (ts : List ℕ) (n : ℕ) (kids : (i : ℕ) → i < n → Kids i n (row
     distinct : (i : ℕ) → i < n → Distinct (R i)
     distinct i h = remainder-distinct μ (term (rowAt ts) n i) (term-distinct (rowAt ts) n kids once i h)
 
-    pub standing-said : 0 < n → rows (R 0) k ≡ true → rowIn (R 0) k ≡ Shown k
-    standing-said = row-induction (rowAt ts) n kids (λ i. Is (R i)) (λ i h ih. let z = remainder-at (rowAt ts) n μ kids i h in subst Is (sym z) (is-by i ih (rowAt ts i) refl (kids i h) (subst Distinct z (distinct i h)))) 0
+    pub kept-as-said : 0 < n → rows (R 0) k ≡ true → rowIn (R 0) k ≡ Shown k
+    kept-as-said = row-induction (rowAt ts) n kids (λ i. Is (R i)) (λ i h ih. let z = remainder-at (rowAt ts) n μ kids i h in subst Is (sym z) (is-by i ih (rowAt ts i) refl (kids i h) (subst Distinct z (distinct i h)))) 0

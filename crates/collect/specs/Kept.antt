@@ -15,7 +15,7 @@ use Rattle.layout.specs.Bytes.{rowBytes, laid}
 use Rattle.state.specs.declared.State.{State}
 use Rattle.compacted.specs.Compacted.{rank, compactedTerms}
 use Rattle.flags.specs.Flags.{flagged}
-use Rattle.collect.specs.Tops.{standing}
+use Rattle.collect.specs.Tops.{keptAs}
 
 -- the table tells a function's value at each number from a on, below b
 pub record Tells (f : ℕ → ℕ) (a b : ℕ) (t : List ℕ) : Type 0 where
@@ -28,11 +28,11 @@ keptBy live tops k = flagged live k && eqb (getD tops k 0) k
 
 -- the bytes of a row that is kept, from the tables
 unfoldable pub newBytes : Row → ℕ → List ℕ → List ℕ → List ℕ
-newBytes N mark tops numbers = rowBytes (renumbered (λ j. getD numbers j 0) (standing N mark (λ j. getD tops j 0)))
+newBytes N mark tops ranks = rowBytes (renumbered (λ j. getD ranks j 0) (keptAs N mark (λ j. getD tops j 0)))
 
 -- ... and of all of them, in their old order
 abbrev pub newTerms : List ℕ → ℕ → Marks → List ℕ → List ℕ → List ℕ → List ℕ
-newTerms ts n μ live tops numbers = laid (λ k. newBytes (rowAt ts k) (μ k) tops numbers) (listed (keptBy live tops) 0 n)
+newTerms ts n μ live tops ranks = laid (λ k. newBytes (rowAt ts k) (μ k) tops ranks) (listed (keptBy live tops) 0 n)
 
 -- so many rows, with these bytes: the array begins with them
 pub record LaidIn (n : ℕ) (bytes : List ℕ) (count : ℕ) (rows : List ℕ) : Type 0 where

@@ -18,7 +18,7 @@ topBy i (PREFIX π c) m top = cond (passedBy (stand m)) (top c) i
 topBy i (BRANCH κ p q) m top = topBranch (open-branches κ m) i (top p) (top q)
 
 -- a row that is kept: its children are their tops, and "a dropped JOIN" is "NIL"; a passed row is not kept
-unfoldable pub standing : Row → ℕ → (ℕ → ℕ) → Row
-standing NIL m top = NIL
-standing (PREFIX π c) m top = cond (waitsBy (stand m)) (PREFIX π (top c)) NIL
-standing (BRANCH κ p q) m top = BRANCH κ (top p) (top q)
+unfoldable pub keptAs : Row → ℕ → (ℕ → ℕ) → Row
+keptAs NIL m top = NIL
+keptAs (PREFIX π c) m top = cond (waitsBy (stand m)) (PREFIX π (top c)) NIL
+keptAs (BRANCH κ p q) m top = BRANCH κ (top p) (top q)

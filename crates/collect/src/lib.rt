@@ -1,4 +1,4 @@
-// The terms of the compacted table. What is left of a row begins at some row, its top. A row is kept that is live and its own top; it is numbered by the rows that are kept before it, and a child is named by the number of its top.
+// The terms of the compacted table. What is left of a row begins at some row, its top. A row is kept that is live and its own top; its new number, its rank, is how many are kept before it, and a child is named by the rank of its top.
 ghost use mathlib.Core.Path.{_≡_};
 ghost use Prim.Native.Nat.{_+_, _*_, _<_, _≤_};
 ghost use mathlib.Core.Bool.{cond};
@@ -81,7 +81,7 @@ fn is_kept(live: &[u8; 256], tops: &[u8; 256], row: usize) -> bool
     (live[row] == 1) & (tops[row] == own)
 }
 
-// The number of each row: how many are kept before it.
+// The rank of each row: how many are kept before it.
 fn ranks(live: &[u8; 256], tops: &[u8; 256], n: usize) -> [u8; 256]
     requires { ⌜ n ≤ 256 ⌝ }
     ensures { λ r. ⌜ Tells (count (keptBy (now (live .entry)) (now (tops .entry)))) 0 n r ⌝ }
@@ -97,18 +97,19 @@ fn ranks(live: &[u8; 256], tops: &[u8; 256], n: usize) -> [u8; 256]
     table
 }
 
+// What a table has at a place.
 fn entry(table: &[u8; 256], i: u8) -> u8
     ensures { λ r. ⌜ r ≡ getD (now (table .entry)) i 0 ⌝ }
 {
     table[i as usize]
 }
 
-// The number of what is left of a child.
-fn number_of(child: u8, tops: &[u8; 256], numbers: &[u8; 256]) -> u8
-    ensures { λ r. ⌜ r ≡ getD (now (numbers .entry)) (getD (now (tops .entry)) child 0) 0 ⌝ }
+// The rank of what is left of a child.
+fn rank_of(child: u8, tops: &[u8; 256], ranks: &[u8; 256]) -> u8
+    ensures { λ r. ⌜ r ≡ getD (now (ranks .entry)) (getD (now (tops .entry)) child 0) 0 ⌝ }
 {
     let top = entry(tops, child);
-    entry(numbers, top)
+    entry(ranks, top)
 }
 
 // The bytes of an ACT, OUT or JOIN that is kept: of a dropped JOIN those of NIL.
@@ -122,29 +123,29 @@ fn step_row(mark: u8, kind: u8, a: u8, b: u8, c: u8) -> [u8; 4]
 }
 
 // The bytes of a PICK or FLOW that is kept.
-fn branch_row(kind: u8, left: u8, right: u8, tops: &[u8; 256], numbers: &[u8; 256]) -> [u8; 4]
-    ensures { λ r. ⌜ r ≡ four kind (getD (now (numbers .entry)) (getD (now (tops .entry)) left 0) 0) (getD (now (numbers .entry)) (getD (now (tops .entry)) right 0) 0) 0 ⌝ }
+fn branch_row(kind: u8, left: u8, right: u8, tops: &[u8; 256], ranks: &[u8; 256]) -> [u8; 4]
+    ensures { λ r. ⌜ r ≡ four kind (getD (now (ranks .entry)) (getD (now (tops .entry)) left 0) 0) (getD (now (ranks .entry)) (getD (now (tops .entry)) right 0) 0) 0 ⌝ }
 {
-    let a = number_of(left, tops, numbers);
-    let b = number_of(right, tops, numbers);
+    let a = rank_of(left, tops, ranks);
+    let b = rank_of(right, tops, ranks);
     [kind, a, b, 0]
 }
 
 // The bytes of a row that is kept.
-fn new_row(ts: &[u8], row: usize, mark: u8, tops: &[u8; 256], numbers: &[u8; 256]) -> [u8; 4]
+fn new_row(ts: &[u8], row: usize, mark: u8, tops: &[u8; 256], ranks: &[u8; 256]) -> [u8; 4]
     requires { ⌜ row * 4 + 4 ≤ length (now ts) ⌝ }
-    ensures { λ r. ⌜ r ≡ newBytes (rowAt (now (ts .entry)) row) mark (now (tops .entry)) (now (numbers .entry)) ⌝ }
+    ensures { λ r. ⌜ r ≡ newBytes (rowAt (now (ts .entry)) row) mark (now (tops .entry)) (now (ranks .entry)) ⌝ }
 {
     let at = row * 4;
     let a = ts[at + 1];
     let b = ts[at + 2];
     let c = ts[at + 3];
     match ts[at] {
-        1 => step_row(mark, 1, a, number_of(b, tops, numbers), 0),
-        2 => step_row(mark, 2, a, (b == 1) as u8, number_of(c, tops, numbers)),
-        3 => step_row(mark, 3, a, number_of(b, tops, numbers), 0),
-        4 => branch_row(4, a, b, tops, numbers),
-        5 => branch_row(5, a, b, tops, numbers),
+        1 => step_row(mark, 1, a, rank_of(b, tops, ranks), 0),
+        2 => step_row(mark, 2, a, (b == 1) as u8, rank_of(c, tops, ranks)),
+        3 => step_row(mark, 3, a, rank_of(b, tops, ranks), 0),
+        4 => branch_row(4, a, b, tops, ranks),
+        5 => branch_row(5, a, b, tops, ranks),
         _ => [0, 0, 0, 0],
     }
 }
@@ -167,17 +168,17 @@ fn new_rows(
     marks: &[u8; 256],
     live: &[u8; 256],
     tops: &[u8; 256],
-    numbers: &[u8; 256],
+    ranks: &[u8; 256],
     out: &mut [u8; 1024],
 ) -> usize
     requires { ⌜ ((n ≤ 256) × (n * 4 ≤ length (now ts))) × (length (now out) ≡ 1024) ⌝ }
-    ensures { λ r. ⌜ LaidIn (count (keptBy (now (live .entry)) (now (tops .entry))) n) (newTerms (now (ts .entry)) n (λ k. getD (now (marks .entry)) k 0) (now (live .entry)) (now (tops .entry)) (now (numbers .entry))) r (now (out .exit)) ⌝ }
+    ensures { λ r. ⌜ LaidIn (count (keptBy (now (live .entry)) (now (tops .entry))) n) (newTerms (now (ts .entry)) n (λ k. getD (now (marks .entry)) k 0) (now (live .entry)) (now (tops .entry)) (now (ranks .entry))) r (now (out .exit)) ⌝ }
 {
     let mut count = 0;
     let mut i = 0;
     while i < n {
         if is_kept(live, tops, i) {
-            let row = new_row(ts, i, marks[i], tops, numbers);
+            let row = new_row(ts, i, marks[i], tops, ranks);
             put(out, count * 4, row);
             count += 1;
             i += 1;
@@ -195,11 +196,11 @@ fn kept_rows(h: Head, ts: &[u8], s: State, out: &mut [u8; 1024]) -> usize
 {
     let live = front::ask(front::LIVE, ts, h.n, &s.marks);
     let tops = tops(ts, h.n, &s.marks);
-    let numbers = ranks(&live, &tops, h.n);
-    new_rows(ts, h.n, &s.marks, &live, &tops, &numbers, out)
+    let ranks = ranks(&live, &tops, h.n);
+    new_rows(ts, h.n, &s.marks, &live, &tops, &ranks, out)
 }
 
-// Its evaluation: 2 for strict, 3 for lazy; a table that is compacted keeps its own.
+// The evaluation of the compacted sheet: 2 for strict, 3 for lazy; that of a compacted one stays.
 fn compacted_by(evaluation: u8) -> u8
     ensures { λ r. ⌜ r ≡ compactedBy evaluation ⌝ }
 {

@@ -17,8 +17,8 @@ use Rattle.calculus.specs.Process.{Process, nil, prefix, branch, Prefix, act, o
 use Rattle.calculus.specs.Places.{sets}
 use Rattle.calculus.specs.Rows.{rows, Distinct}
 use Rattle.steps.specs.Rows.{PREFIX}
-use Rattle.steps.proofs.Tree.{rows-above, term-distinct}
-use Rattle.steps.proofs.Marks.{remainder-rows, remainder-distinct}
+use Rattle.steps.proofs.Tree.{rows-above}
+use Rattle.steps.proofs.Marks.{remainder-rows}
 use Rattle.sheet.specs.Table.{Table, isCompacted, processOf}
 use Rattle.sheet.specs.Rules.{sized, settled, fewLinks}
 use Rattle.sheet.specs.Accepted.{WellFormed}
@@ -40,6 +40,7 @@ use Rattle.moves.proofs.Allowed.{left-single}
 use Rattle.moves.proofs.Clear.{clear-said}
 use Rattle.moves.proofs.Fits.{counts-said, fresh-fits}
 use Rattle.moves.proofs.Demand.{fresh-left}
+use Rattle.moves.proofs.Moves.{left-distinct}
 use Rattle.compacted.specs.Compacted.{isKept, rank, keptRow, compactedTerms, compactedBy, compacted, restarted}
 
 -- four bytes for each row that is kept
@@ -63,7 +64,7 @@ module _ (t : Table) (w : WellFormed t) (s : State) where
   ρ = rank t s
 
   distinct : Distinct P
-  distinct = remainder-distinct (marksOf s) W (term-distinct (nodes t) (t .n) (w .tree .kids) (w .tree .once) 0 (w .tree .some-row))
+  distinct = left-distinct t w s
 
   rises : Rises P
   rises = remainder-rises (marksOf s) W (term-rises (nodes t) (t .n) (w .tree .kids) 0 (w .tree .some-row))
@@ -76,7 +77,7 @@ module _ (t : Table) (w : WellFormed t) (s : State) where
   unfolding rank isKept
   rank-ordered i j a b h = rank-rises (rows P) i j a h
 
-  pub rank-first : ρ (root P) ≡ 0
+  rank-first : ρ (root P) ≡ 0
   unfolding rank isKept
   rank-first = count-none (rows P) (root P) .1 (λ k h. refuted (rows P k) (λ e. ⊎-elim (λ (z : k ≡ root P). omega arith) (λ (l : root P < k). omega arith) (root-lowest P rises k e)))
 

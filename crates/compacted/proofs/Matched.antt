@@ -2,7 +2,8 @@
 use Prim.Native.Nat.{ℕ, _+_}
 use mathlib.Core.Path.{_≡_, refl, sym, _∙_, ap, subst, transport, transport⁻¹}
 use mathlib.Core.Bool.{true}
-use mathlib.Core.List.{_∷_, map}
+use mathlib.Core.List.{_∷_, map, List·Memᴰ, List·Memᴰ·not-nil, List·Memᴰ·cases-cons}
+use mathlib.Core.Logic.{⊎-elim}
 use native.Mathlib.Omega.{arith}
 use lib.Dec.{eqb}
 use borrow.Author.Tests.{eqb-true}
@@ -27,7 +28,7 @@ use Rattle.layout.proofs.Renamed.{renamed, relabelled, relabelled-row, twin, tw
 use Rattle.layout.proofs.Renumbered.{ordered-one}
 use Rattle.state.specs.declared.State.{State}
 use Rattle.moves.specs.Steps.{modeOf, linksOf, Sized, leftIn, kindIn, kindAt, hasStep, listedOf, steppedOf}
-use Rattle.moves.specs.Runs.{Run, done, take, taken, last}
+use Rattle.moves.specs.Runs.{Taken, Run, done, take, taken, last}
 use Rattle.moves.proofs.Moves.{left-at, step-place, step-kept, step-move, move-step}
 use Rattle.compacted.specs.Compacted.{isKept, rank, compactedBy, compacted, restarted, reranked}
 use Rattle.compacted.proofs.Compacted.{rank-ordered, compacted-left, compacted-meets}
@@ -146,6 +147,16 @@ module _ (t : Table) (g : Meets t) (s : State) where
     pub lists-follow : listedOf t′ z′ ≡ map ρ (listedOf t z)
     unfolding listedOf rank
     lists-follow = listed-ranks (isKept t s) (hasStep t z) (hasStep t′ z′) listed-kept same-step 0 (t .n) 0 (ρ (t .n)) (sym (count-zero (isKept t s))) (let e : 0 + t .n ≡ t .n = omega arith in omega (arith, ap (count (isKept t s)) e))
+
+  -- a run takes rows that are kept
+  pub run-kept : {z z′ : State} → Follows z z′ → (H : Run t z) (x : Taken) → List·Memᴰ x (taken H) → isKept t s (x .row) ≡ true
+  unfolding taken
+  run-kept f done x m = absurd (List·Memᴰ·not-nil m)
+  run-kept {z} {z′} f (take r e H) x m =
+      ⊎-elim
+      (λ (p : x ≡ record { row = r; kind = kindAt t z r }). rw p (listed-kept z z′ f r e))
+      (λ n. let (_, _, f′) = step-follows z z′ f r e in run-kept f′ H x n)
+      (List·Memᴰ·cases-cons m)
 
   -- "Every run from there matches, row number for row number under the renumbering, a run from the old state" ...
   pub run-back : {z z′ : State} → Follows z z′ → (G : Run t′ z′) → (H : Run t z) × (taken G ≡ map (reranked ρ) (taken H)) × Follows (last H) (last G)

@@ -84,7 +84,7 @@ joinNoted s n row mask = record { linked = s .linked; twice = s .twice; wanted =
 unfoldable pub linksNoted : Notes → ℕ → ℕ → ℕ → ℕ → List ℕ → Notes
 linksNoted s n row kind a masks = cond (eqb kind 2) (sourceNoted s a) (cond (eqb kind 3) (joinNoted s n row (getD masks a 0)) s)
 
--- every link that a row wants is in a mask, by the row's kind and first byte: a JOIN wants those that its condition reaches
+-- every link that a row wants is in a mask, by the row's kind and first byte, of a sheet that was never compacted: a JOIN wants those that its condition reaches
 unfoldable pub wantsWithin : ℕ → ℕ → List ℕ → ℕ → Bool
 wantsWithin kind a masks links = cond (eqb kind 3) (within (getD masks a 0) links) true
 

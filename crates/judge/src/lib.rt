@@ -131,7 +131,7 @@ fn note_children(named: &mut [u16; 256], kind: u8, a: u8, b: u8, c: u8)
     }
 }
 
-// What checks 7, 13 and 8 ask of the rows so far: the links that an OUT row sets, those that two set, those that a JOIN wants, since its condition reaches them, and the lowest JOIN row whose condition reaches more than 8 links, n where there is none.
+// What checks 7, 13 and 8 ask of the rows so far: the links that an OUT row sets, those that two set, those that a JOIN's condition reaches, which it wants unless the sheet was compacted, and the lowest JOIN row whose condition reaches more than 8 links, n where there is none.
 struct Notes {
     linked: u64,
     twice: u64,
@@ -202,7 +202,7 @@ fn bad_term(m: usize, n: usize, k: usize, ts: &[u8], from: usize) -> usize
     i
 }
 
-// Whether every link that a row wants is in a mask: a JOIN wants those that its condition reaches.
+// Whether every link that a row wants is in a mask, of a sheet that was never compacted: a JOIN wants those that its condition reaches.
 fn wants_within(kind: u8, a: u8, masks: &[u64; 256], links: u64) -> bool
     ensures { λ r. ⌜ r ≡ wantsWithin kind a (now (masks .entry)) links ⌝ }
 {

@@ -1,8 +1,8 @@
 -- The bytes of a row read as the row, wherever they stand, and meet rule 5 where the row does; laid one after another, each row stands at its rank. Assumes nothing.
 use Prim.Native.Nat.{ℕ, zero, suc, _+_, _-_, _*_, _<_, _≤_}
-use mathlib.Core.Path.{_≡_, refl, _∙_, ap}
+use mathlib.Core.Path.{_≡_, refl, _∙_, ap, ap₂}
 use mathlib.Core.Bool.{Bool, true, false}
-use mathlib.Core.List.{List, [], _∷_, _++_}
+use mathlib.Core.List.{List, [], _∷_, _++_, List·Memᴰ, List·Memᴰ·head, List·Memᴰ·tail}
 use mathlib.Core.Logic.{⊎-elim, by-cases}
 use native.Mathlib.Omega.{arith}
 use native.Mathlib.Decide.{ℕ-discrete}
@@ -23,7 +23,7 @@ use Rattle.sheet.proofs.Rows.{PrefixOk, RowOk}
 use Rattle.layout.specs.Bytes.{rowBytes, laid}
 
 -- four bytes stand at row j
-abbrev pub Four : List ℕ → ℕ → List ℕ → Type 0
+abbrev Four : List ℕ → ℕ → List ℕ → Type 0
 Four ts j xs = (getD ts (j * 4) 0 ≡ getD xs 0 0) × (getD ts (j * 4 + 1) 0 ≡ getD xs 1 0) × (getD ts (j * 4 + 2) 0 ≡ getD xs 2 0) × (getD ts (j * 4 + 3) 0 ≡ getD xs 3 0)
 
 abbrev pub At : List ℕ → ℕ → Row → Type 0
@@ -70,6 +70,12 @@ module _ (xs ys : List ℕ) (four : length xs ≡ 4) where
     where
       at : (i k : ℕ) → k ≡ length xs + i → getD (xs ++ ys) k 0 ≡ getD ys i 0
       at i k e = ap (λ (k : ℕ). getD (xs ++ ys) k 0) e ∙ getD-append-add xs ys i 0
+
+-- the same bytes for each number, the same bytes in all
+pub laid-same : (f g : ℕ → List ℕ) (ks : List ℕ) → ((k : ℕ) → List·Memᴰ k ks → f k ≡ g k) → laid f ks ≡ laid g ks
+unfolding laid
+laid-same f g [] h = refl
+laid-same f g (k ∷ ks) h = ap₂ _++_ (h k (List·Memᴰ·head refl)) (laid-same f g ks (λ j m. h j (List·Memᴰ·tail m)))
 
 -- THE ROWS OF A TEST'S NUMBERS: the row of a number stands at its rank
 module _ (bytes : ℕ → List ℕ) (fours : (k : ℕ) → length (bytes k) ≡ 4) where

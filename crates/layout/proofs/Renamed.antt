@@ -102,7 +102,7 @@ module _ (ρ : ℕ → ℕ) where
 
   module _ (eval : ℕ → Links → Value) where
     -- A move of the one is a move of the other.
-    abbrev pub Twin : {m : Mode} {P : Process} {v : Links} → Move eval m P v → Move eval m (renamed P) v → Type 0
+    abbrev Twin : {m : Mode} {P : Process} {v : Links} → Move eval m P v → Move eval m (renamed P) v → Type 0
     Twin s s′ = (label eval s′ ≡ relabelled (label eval s)) × (left eval s′ ≡ renamed (left eval s)) × (links eval s′ ≡ links eval s)
 
     pub twin : {m : Mode} {P : Process} {v : Links} (s : Move eval m P v) → (s′ : Move eval m (renamed P) v) × Twin s s′

@@ -127,5 +127,5 @@ module _ (t : Table) (w : WellFormed t) where
         let (size₁, fits₁, mode₁) = both-fit i j a c b in
         let (size₂, fits₂, mode₂) = both-fit j i c a b′ in
         one-state t _ _ size₁ size₂ fits₁ fits₂ (mode₁ ∙ sym mode₂)
-        (both-marks i j a c b ∙ (same-marks (a .turn) (c .turn) (marksOf s) P (a .place) (c .place) b b′ (left-distinct t w s size) ∙ sym (both-marks j i c a b′)))
+        (both-marks i j a c b ∙ (same-marks (a .turn) (c .turn) (marksOf s) P (a .place) (c .place) b b′ (left-distinct t w s) ∙ sym (both-marks j i c a b′)))
         (both-links i j a c b ∙ (same-links (a .turn) (c .turn) d (linksOf s) P (a .place) (c .place) b b′ (fits-valid t w source s fits .single) ∙ sym (both-links j i c a b′)))

@@ -127,6 +127,14 @@ pub record StepPlace (t : Table) (s : State) (r : ℕ) : Type 0 where
   pub ready : Ready (evalIn t) turn (here (leftIn t s) place) (linksOf s)
   pub does : Does t s r turn (leftIn t s) place
 
+-- no row stands twice in what is left
+module _ (t : Table) (w : WellFormed t) (s : State) where
+  distinct : Distinct (term (nodes t) (t .n) 0)
+  distinct = term-distinct (nodes t) (t .n) (w .tree .kids) (w .tree .once) 0 (w .tree .some-row)
+
+  pub left-distinct : Distinct (leftIn t s)
+  left-distinct = remainder-distinct (marksOf s) (term (nodes t) (t .n) 0) distinct
+
 module _ (t : Table) (w : WellFormed t) (s : State) (size : Sized s) where
   abbrev eval : ℕ → Links → Value
   eval = evalIn t
@@ -137,14 +145,8 @@ module _ (t : Table) (w : WellFormed t) (s : State) (size : Sized s) where
   abbrev P : Process
   P = leftIn t s
 
-  distinct : Distinct (term (nodes t) (t .n) 0)
-  distinct = term-distinct (nodes t) (t .n) (w .tree .kids) (w .tree .once) 0 (w .tree .some-row)
-
-  pub left-distinct : Distinct P
-  left-distinct = remainder-distinct (marksOf s) (term (nodes t) (t .n) 0) distinct
-
   pub left-at : (u : Turn) (x : Place P) (z : State) → Is s u z P x → leftIn t z ≡ after u P x
-  left-at u x z i = ap (λ (μ : Marks). remainder μ (term (nodes t) (t .n) 0)) (fun-ext (i .marks-are)) ∙ remainder-marked u (marksOf s) (term (nodes t) (t .n) 0) distinct x
+  left-at u x z i = ap (λ (μ : Marks). remainder μ (term (nodes t) (t .n) 0)) (fun-ext (i .marks-are)) ∙ remainder-marked u (marksOf s) (term (nodes t) (t .n) 0) (distinct t w s) x
 
   pub links-at : (u : Turn) (x : Place P) (z : State) → Is s u z P x → linksOf z ≡ put-on (effect u (falsifies m) P x) (linksOf s)
   links-at u x z i = fun-ext (i .links-are)
@@ -196,7 +198,7 @@ module _ (t : Table) (w : WellFormed t) (s : State) (size : Sized s) where
       let g : Fronts t s r u = (f, here P x, c, p, ready-turn eval m (here P x) (linksOf s) u a o) in
       let q : turnAt t s r ≡ some u = fronts-turn t s r u g in
       let (y, k, h, i) = stepped-at t s r w size u q g in
-      record { there = turn-has t s r u q; kind = turn-kind t s r u (here P x) c q p; stepped = subst (Is s u (steppedOf t s r) P) (one-place P y x left-distinct k) i }
+      record { there = turn-has t s r u q; kind = turn-kind t s r u (here P x) c q p; stepped = subst (Is s u (steppedOf t s r) P) (one-place P y x (left-distinct t w s) k) i }
 
   pub move-step : (y : Move eval m P (linksOf s)) → Listed t s (label eval y) (left eval y) (links eval y)
   move-step (move u x a o) =

@@ -55,14 +55,15 @@ module _ (f g : ℕ → Bool) (k l : ℕ → StepKind) (same-steps : (r : ℕ) �
           (clean-or (l i))
       at false e false d ih = ih
 
+-- the listed steps are those of `moves`
+pub steps-are : (t : Table) (s : State) → Accepted t s → listedSteps t s ≡ with-kinds (kindAt t s) (listedOf t s)
+steps-are t s a = let e = unrefused t s a in ap₂ with-kinds (fun-ext (kind-is t s e)) (rows-are t s e)
+
 -- THE LISTED STEPS of states that `moves` calls alike
 pub same-listed : (t : Table) (s z : State) → Accepted t s → Accepted t z → Alike t s z → listedSteps t s ≡ struck (listedSteps t z)
 unfolding listedOf
 same-listed t s z a b h =
-    shown s a ∙ (steps-struck (hasStep t s) (hasStep t z) (kindAt t s) (kindAt t z) (h .same-steps) (h .same-kinds) 0 (t .n) ∙ ap struck (sym (shown z b)))
-  where
-    shown : (s : State) → Accepted t s → listedSteps t s ≡ with-kinds (kindAt t s) (listedOf t s)
-    shown s a = let e = unrefused t s a in ap₂ with-kinds (fun-ext (kind-is t s e)) (rows-are t s e)
+    steps-are t s a ∙ (steps-struck (hasStep t s) (hasStep t z) (kindAt t s) (kindAt t z) (h .same-steps) (h .same-kinds) 0 (t .n) ∙ ap struck (sym (steps-are t z b)))
 
 -- a byte of a state's links is the number of its value
 pub link-is : (t : Table) (s : State) → Accepted t s → (l : ℕ) → link s l ≡ digit (linksOf s l)

@@ -8,8 +8,8 @@ use cases::first;
 use cases::four;
 use cases::same_told;
 use cases::told_refused;
+use cases::told_size;
 use cases::told_word;
-use codec::SizeAnswer;
 use sheet::Head;
 use sheet_engine::StandingAnswer;
 use state::State;
@@ -21,14 +21,6 @@ fn told_answer(answer: StandingAnswer) -> Told {
         StandingAnswer::Finished => told_word(1, 0, 0),
         StandingAnswer::Waiting(rows) => told_word(2, rows, 0),
         StandingAnswer::Refused(number, place) => told_refused(number, place),
-    }
-}
-
-// ... and for the links no word, but how many there are.
-fn told_size(answer: SizeAnswer) -> Told {
-    match answer {
-        SizeAnswer::Size(links) => told_word(0, links, 0),
-        SizeAnswer::Refused(number, place) => told_refused(number, place),
     }
 }
 

@@ -29,6 +29,6 @@ setOf s link value = record { mode = s .mode; marks = s .marks; links = set (s .
 abbrev pub withCounts : State → ℕ → ℕ → State
 withCounts s acts unset = record { mode = s .mode; marks = s .marks; links = s .links; acts = acts; unset = unset }
 
--- Document 02, request 8: "a state of the same mode, waiting marks and the old link values"
+-- Document 02, request 8: "a state of the same mode, waiting marks and the old link values"; and the old counts
 abbrev pub restartOf : State → State
 restartOf s = record { mode = s .mode; marks = replicate 256 0; links = s .links; acts = s .acts; unset = s .unset }

@@ -1,4 +1,4 @@
-// A state: the mode, one mark for each of 256 rows, one value for each of 64 links, how many ACT rows are left and how many links of the sheet are unset. The engine changes it by the five methods.
+// A state: the mode, one mark for each of 256 rows, one value for each of 64 links, how many ACT rows are left and how many links of the sheet are unset. A step changes it by five of the methods; `restart` makes the state of a compacted sheet.
 ghost use mathlib.Core.Path.{_≡_};
 ghost use Prim.Native.Nat.{_<_};
 ghost use lib.ListN.{replicate};

@@ -17,7 +17,7 @@ add-size-2 : tie.Need-add-size-2
 add-size-2 c = search needs
 
 returns : tie.Need-returns
-returns c = let a = c .before .before .before .before .before .before .args in let p = c .before .before .before .before .before .before .pre in (refl, lay-short (a .h) (a .ts .now) (a .cs .now) (p .terms-lent) (p .conditions-lent) (a .out .now) (c .if1 .taken))
+returns c = let b = c .before .before .before .before .before .before in (refl, lay-short (b .args .h) (b .args .ts .now) (b .args .cs .now) (b .pre .terms-lent) (b .pre .conditions-lent) (b .args .out .now) (c .if1 .taken))
 
 front-requires : tie.Need-front-requires
 front-requires c κs = search needs
@@ -41,9 +41,10 @@ same-length : tie.Need-same-length
 same-length c = search needs
 
 returns-2 : tie.Need-returns-2
-returns-2 c = let a = c .before .before .before .before .before .before .before .before .before .before .before .before .before .before .before .before .before .before .before .before .args in
-    let p = c .before .before .before .before .before .before .before .before .before .before .before .before .before .before .before .before .before .before .before .before .pre in
-    (refl, copied-by (a .h) (a .ts .now) (a .cs .now) (p .terms-lent) (p .conditions-lent) (a .out .now) (c .before .before .before .before .before .before .before .before .before .before .before .before .before .before .if1 .left) _ _ _ _ (c .before .before .before .before .before .before .before .before .before .before .before .before .before .front .ensures) (c .before .before .before .before .before .before .before .before .before .before .copy .ensures) (c .before .before .before .before .before .before .copy2 .ensures) (c .before .before .copy3 .ensures))
+returns-2 c = let d = c .before .before .before .before .before .before .before .before .before .before in
+    let e = d .before .before .before .before in
+    let b = e .before .before .before .before .before .before in
+    (refl, copied-by (b .args .h) (b .args .ts .now) (b .args .cs .now) (b .pre .terms-lent) (b .pre .conditions-lent) (b .args .out .now) (e .if1 .left) _ _ _ _ (d .before .before .before .front .ensures) (d .copy .ensures) (c .before .before .before .before .before .before .copy2 .ensures) (c .before .before .copy3 .ensures))
 
 pub lay-spec : {M : Type 1} → statement M
 lay-spec =

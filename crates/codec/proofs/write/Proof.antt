@@ -19,13 +19,13 @@ same-length : tie.Need-same-length
 same-length c = search needs
 
 returns-2 : tie.Need-returns-2
-returns-2 c = wrote-short _ _ _ _ _ (c .before .before .before .before .before .before .judge .ensures) (c .before .before .before .before .before .if1 .left) _ _ (c .before .before .before .lay .ensures .0) (c .before .before .before .lay .ensures .1) (c .if2 .taken)
+returns-2 c = let d = c .before .before .before in wrote-short _ _ _ _ _ (d .before .before .before .judge .ensures) (d .before .before .if1 .left) _ _ (d .lay .ensures .0) (d .lay .ensures .1) (c .if2 .taken)
 
 same-length-2 : tie.Need-same-length-2
 same-length-2 c = search needs
 
 returns-3 : tie.Need-returns-3
-returns-3 c = wrote-whole _ _ _ _ _ (c .before .before .before .before .before .before .judge .ensures) (c .before .before .before .before .before .if1 .left) _ _ (c .before .before .before .lay .ensures .0) (c .before .before .before .lay .ensures .1) (c .if2 .left)
+returns-3 c = let d = c .before .before .before in wrote-whole _ _ _ _ _ (d .before .before .before .judge .ensures) (d .before .before .if1 .left) _ _ (d .lay .ensures .0) (d .lay .ensures .1) (c .if2 .left)
 
 pub write-spec : {M : Type 1} → statement M
 write-spec =

@@ -33,8 +33,8 @@ shared-slice-read-c c = search needs
 shared-slice-read-match : tie.Need-shared-slice-read-match
 shared-slice-read-match c = search needs
 
-number-of-requires : tie.Need-number-of-requires
-number-of-requires c κs = search needs
+rank-of-requires : tie.Need-rank-of-requires
+rank-of-requires c κs = search needs
 
 step-row-requires : tie.Need-step-row-requires
 step-row-requires c κs = search needs
@@ -42,14 +42,14 @@ step-row-requires c κs = search needs
 cast-step-row : tie.Need-cast-step-row
 cast-step-row c = search needs
 
-number-of-requires-2 : tie.Need-number-of-requires-2
-number-of-requires-2 c κs = search needs
+rank-of-requires-2 : tie.Need-rank-of-requires-2
+rank-of-requires-2 c κs = search needs
 
 step-row-requires-2 : tie.Need-step-row-requires-2
 step-row-requires-2 c κs = search needs
 
-number-of-requires-3 : tie.Need-number-of-requires-3
-number-of-requires-3 c κs = search needs
+rank-of-requires-3 : tie.Need-rank-of-requires-3
+rank-of-requires-3 c κs = search needs
 
 step-row-requires-3 : tie.Need-step-row-requires-3
 step-row-requires-3 c κs = search needs
@@ -62,15 +62,15 @@ branch-row-requires-2 c κs = search needs
 
 returns : tie.Need-returns
 unfolding rowAt rowBytes
-returns c = new-step _ _ _ _ _ (row-act _ _ _ _ (c .before .before .match .keys1)) (rw (← c .before .number-of .ensures) (c .step-row .ensures))
+returns c = new-step _ _ _ _ _ (row-act _ _ _ _ (c .before .before .match .keys1)) (rw (← c .before .rank-of .ensures) (c .step-row .ensures))
 
 returns-2 : tie.Need-returns-2
 unfolding rowAt rowBytes
-returns-2 c = new-step _ _ _ _ _ (row-out _ _ _ _ (c .before .before .match .keys2)) (rw (← c .before .number-of2 .ensures) (c .step-row2 .ensures))
+returns-2 c = new-step _ _ _ _ _ (row-out _ _ _ _ (c .before .before .match .keys2)) (rw (← c .before .rank-of2 .ensures) (c .step-row2 .ensures))
 
 returns-3 : tie.Need-returns-3
 unfolding rowAt rowBytes
-returns-3 c = new-step _ _ _ _ _ (row-join _ _ _ _ (c .before .before .match .keys3)) (rw (← c .before .number-of3 .ensures) (c .step-row3 .ensures))
+returns-3 c = new-step _ _ _ _ _ (row-join _ _ _ _ (c .before .before .match .keys3)) (rw (← c .before .rank-of3 .ensures) (c .step-row3 .ensures))
 
 returns-4 : tie.Need-returns-4
 unfolding rowAt rowBytes
@@ -96,12 +96,12 @@ new-row-spec =
     add-c
     shared-slice-read-c
     shared-slice-read-match
-    number-of-requires
+    rank-of-requires
     step-row-requires
     cast-step-row
-    number-of-requires-2
+    rank-of-requires-2
     step-row-requires-2
-    number-of-requires-3
+    rank-of-requires-3
     step-row-requires-3
     branch-row-requires
     branch-row-requires-2

@@ -10,10 +10,10 @@ use Rattle.collect.proofs.new_rows.Statement.{statement}
 use Rattle.collect.proofs.new_rows.Tie as tie
 
 abbrev Inv-loop : tie.InvT-loop
-Inv-loop ts n marks live tops numbers out₀ count₀ i₀ out count i = (i ≤ n) × ((count ≤ i) × Laid (λ k. newBytes (rowAt ts k) (getD marks k 0) tops numbers) (keptBy live tops) n i count out)
+Inv-loop ts n marks live tops ranks out₀ count₀ i₀ out count i = (i ≤ n) × ((count ≤ i) × Laid (λ k. newBytes (rowAt ts k) (getD marks k 0) tops ranks) (keptBy live tops) n i count out)
 
 abbrev μ-loop : tie.MeasureT-loop
-μ-loop ts n marks live tops numbers out₀ count₀ i₀ out count i = n - i
+μ-loop ts n marks live tops ranks out₀ count₀ i₀ out count i = n - i
 
 loop-holds : tie.Need-loop-holds Inv-loop μ-loop
 loop-holds c = (omega arith, (omega arith, laid-none _ _ _ _ (c .before .pre .1)))

@@ -17,7 +17,7 @@ same-length : tie.Need-same-length
 same-length c = search needs
 
 returns-2 : tie.Need-returns-2
-returns-2 c = (compact-short _ _ _ (c .before .before .before .before .before .before .judge-state .ensures) _ _ _ (c .before .before .before .before .before .if1 .left) (c .before .before .before .write .ensures .0) (c .before .before .before .write .ensures .1) (c .if2 .taken), search needs)
+returns-2 c = ((let d = c .before .before .before in compact-short _ _ _ (d .before .before .before .judge-state .ensures) _ _ _ (d .before .before .if1 .left) (d .write .ensures .0) (d .write .ensures .1) (c .if2 .taken)), search needs)
 
 restart-requires : tie.Need-restart-requires
 restart-requires c κs = search needs
@@ -26,7 +26,10 @@ same-length-2 : tie.Need-same-length-2
 same-length-2 c = search needs
 
 returns-3 : tie.Need-returns-3
-returns-3 c = (compact-given _ _ _ (c .before .before .before .before .before .before .before .judge-state .ensures) _ _ _ (c .before .before .before .before .before .before .if1 .left) (c .before .before .before .before .write .ensures .0) (c .before .before .before .before .write .ensures .1) (c .before .if2 .left) _ (c .restart .ensures ∙ call-restarts _ _ _ (c .before .before .before .before .before .before .before .judge-state .ensures) (c .before .before .before .before .before .before .if1 .left)), search (needs, c .before .before .before .before .before .before .before .before .before .before .before .good))
+returns-3 c = let d = c .before .before .before .before in
+    let told = d .before .before .before .judge-state .ensures in
+    let e = d .before .before .if1 .left in
+    (compact-given _ _ _ told _ _ _ e (d .write .ensures .0) (d .write .ensures .1) (c .before .if2 .left) _ (c .restart .ensures ∙ call-restarts _ _ _ told e), search (needs, c .before .before .before .before .before .before .before .before .before .before .before .good))
 
 pub compact-spec : {M : Type 1} → statement M
 compact-spec =
