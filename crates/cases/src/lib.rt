@@ -1,5 +1,8 @@
 // The fields of a case, read from its file one after the other. A case is the length of the input (4 bytes), the input, the length of the output, the output; of a number's bytes the lower comes first.
 // How much is read depends on the file alone, never on what a call answers; so, where every field fits its buffer, the next case is read from where it begins also after one that disagrees.
+
+#![tactic(auto)]
+
 ghost use Rattle.std.specs.Prelude.{◌<◌};
 ghost use Rattle.io.specs.Counts.{IsPrefixLen};
 
@@ -17,7 +20,7 @@ pub const SPACE: usize = 8192;
 pub const BLANK: u8 = 170;
 
 // The call, its argument, and how many bytes of buffer to lend.
-#[derive(Drop)]
+#[derive(Clone, Copy)]
 pub struct Asked {
     pub call: u8,
     pub argument: usize,
@@ -25,7 +28,7 @@ pub struct Asked {
 }
 
 // The numbers of a table, and how many bytes of terms and of conditions are lent with it.
-#[derive(Drop)]
+#[derive(Clone, Copy)]
 pub struct Given {
     pub head: Head,
     pub terms: usize,
@@ -33,7 +36,7 @@ pub struct Given {
 }
 
 // What a case tells: number and place of the refusal; or 0 and 0, then a word and two values, 0 where it has none.
-#[derive(Drop)]
+#[derive(Clone, Copy)]
 pub struct Told {
     pub number: u8,
     pub place: usize,

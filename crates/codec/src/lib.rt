@@ -1,4 +1,7 @@
 // Reading a sheet from any bytes, handing on its bodies, and writing a table.
+
+#![tactic(auto)]
+
 ghost use Rattle.std.specs.Prelude.{◌≡◌, ◌+◌, ◌*◌, ◌<◌, ◌≤◌, length};
 ghost use Rattle.std.proofs.Math.Seq.{paste};
 ghost use Rattle.laws.specs.Checks.{place_of};
@@ -10,14 +13,14 @@ ghost use Rattle.codec.specs.Answers.{read_of, part_of, write_of, written_of, Fr
 use sheet::{Head, Refusal};
 
 // The head of an accepted sheet, or number and place.
-#[derive(Drop)]
+#[derive(Clone, Copy)]
 pub enum SheetAnswer {
     Sheet(Head),
     Refused(u8, usize),
 }
 
 // The size that was written or listed, or number and place.
-#[derive(Drop)]
+#[derive(Clone, Copy)]
 pub enum SizeAnswer {
     Size(usize),
     Refused(u8, usize),

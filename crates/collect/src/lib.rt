@@ -1,4 +1,7 @@
 // The terms of the compacted table. What is left of a row begins at some row, its top. A row is kept that is live and its own top; its new number, its rank, is how many are kept before it, and a child is named by the rank of its top.
+
+#![tactic(auto)]
+
 ghost use Rattle.std.specs.Prelude.{◌≡◌, ◌+◌, ◌*◌, ◌<◌, ◌≤◌, cond, get_or, length};
 ghost use Rattle.std.proofs.Math.Seq.{paste};
 ghost use Rattle.laws.specs.Listed.{written};

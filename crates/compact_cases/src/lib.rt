@@ -1,4 +1,7 @@
 // Cases of compacting: the sheet in the lent buffer and the state that goes with it; and what was made, compacted once more, is made again.
+
+#![tactic(auto)]
+
 use cases::{first, four, same_state};
 use codec::{SheetAnswer, SizeAnswer};
 use sheet::Head;

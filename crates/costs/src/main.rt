@@ -1,12 +1,15 @@
 // One call, or all but the call, for counting instructions: two runs that differ in the second letter differ by one call.
 // Standard input: r, p, j, w, v, s, q, u, l, h, a, k, t, i or c (read, terms part, judge, write, verdict, start, ACTs left, links unset, list, how a state stands, what it waits for, kind, step, step on a lent record, compact); 1 to make the call, 0 not to; the mode; the row asked for; the number of steps taken first, and their rows; the sheet. The answer is printed as three numbers of four hex digits, so that each costs the same.
+
+#![tactic(auto)]
+
 use codec::{SheetAnswer, SizeAnswer};
 use libc::{STDIN_FILENO, STDOUT_FILENO};
 use sheet::Head;
 use sheet_engine::{StandingAnswer, VerdictAnswer};
 use state::{State, StepKind};
 
-#[derive(Drop)]
+#[derive(Clone, Copy)]
 struct Seen {
     a: usize,
     b: usize,

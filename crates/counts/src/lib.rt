@@ -1,4 +1,7 @@
 // How many ACT rows are in the remainder, and how many links are unset. Both are counted in full: a step may take many rows from the remainder at once.
+
+#![tactic(auto)]
+
 ghost use Rattle.std.specs.Prelude.{◌≡◌, ◌+◌, ◌*◌, ◌≤◌, ◌&&◌, not, eqb, length, get_or};
 ghost use Rattle.conditions.specs.Conditions.{is_set};
 ghost use Rattle.conditions.specs.Numbers.{undigit};

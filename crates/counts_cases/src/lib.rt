@@ -1,4 +1,7 @@
 // Cases of the two counts: along a run from a fresh start (call 1), and asked of any state (call 2). A count is one byte of a case.
+
+#![tactic(auto)]
+
 ghost use Rattle.std.specs.Prelude.{◌≤◌, length};
 
 use cases::{Told, byte, four, same_told, told_kind, told_refused, told_word, two, wide};

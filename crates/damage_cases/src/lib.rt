@@ -1,4 +1,7 @@
 // Cases of the small sheet that shows the damage: its bytes in the lent buffer; and, run from its start by the lowest step each time, it does activities 1 and 2 with cleaning, and without it 1 alone.
+
+#![tactic(auto)]
+
 use cases::{first, four, wide};
 use codec::{SheetAnswer, SizeAnswer};
 use sheet::Head;

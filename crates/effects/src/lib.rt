@@ -1,4 +1,7 @@
 // What a step changes: the row's mark and link, the waiting PICKs above it, in cleaning mode the links of what is cleaned away, and the counts.
+
+#![tactic(auto)]
+
 ghost use Rattle.std.specs.Prelude.{◌≡◌, ◌+◌, ◌*◌, ◌<◌, ◌≤◌, length, get_or};
 ghost use Rattle.calculus.specs.Places.{falsifies};
 ghost use Rattle.steps.specs.Rows.{first_of, Tree};

@@ -1,4 +1,7 @@
 // The step of a row in a state, the list of steps, taking one, how a state stands and what it waits for, for an accepted table.
+
+#![tactic(auto)]
+
 ghost use Rattle.std.specs.Prelude.{◌≡◌, ◌+◌, ◌*◌, ◌<◌, ◌≤◌, length, get_or};
 ghost use Rattle.laws.specs.Listed.{written};
 ghost use Rattle.sheet.specs.Table.{table_of, row_at};
@@ -14,7 +17,7 @@ use sheet::Head;
 use state::{State, StepKind};
 
 // Whether a step was taken, which or why not, and the state after.
-#[derive(Drop)]
+#[derive(Clone, Copy)]
 pub struct Stepped {
     pub ok: bool,
     pub answer: StepKind,
@@ -22,7 +25,7 @@ pub struct Stepped {
 }
 
 // How many rows have a step, and how many rows a state waits for.
-#[derive(Drop)]
+#[derive(Clone, Copy)]
 pub struct Standing {
     pub steps: usize,
     pub waiting: usize,

@@ -1,4 +1,7 @@
 // The values of condition rows under link values, in rising order of the rows.
+
+#![tactic(auto)]
+
 ghost use Rattle.std.specs.Prelude.{◌≡◌, ℕ, ◌+◌, ◌*◌, ◌<◌, ◌≤◌, length};
 ghost use Rattle.conditions.specs.Operators.{table};
 ghost use Rattle.conditions.specs.Numbers.{digit, undigit};

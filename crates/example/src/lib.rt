@@ -1,4 +1,7 @@
 // A caller of the library, as README shows it.
+
+#![tactic(auto)]
+
 use codec::SheetAnswer;
 use state::StepKind;
 

@@ -1,4 +1,7 @@
 // The condition rows that one reaches, in their old order, as bytes under new numbers.
+
+#![tactic(auto)]
+
 ghost use Rattle.std.specs.Prelude.{◌≡◌, ◌+◌, ◌*◌, ◌<◌, ◌≤◌, length};
 ghost use Rattle.laws.specs.Sums.{count};
 ghost use Rattle.sheet.specs.Table.{condition_row_by, condition_row_at};

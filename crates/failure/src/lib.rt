@@ -1,4 +1,7 @@
 // The failure of one condition. Pass is decided by 2 to the number of links, the number is searched among 3 to it, both 64 at a time.
+
+#![tactic(auto)]
+
 ghost use Rattle.std.specs.Prelude.{◌≡◌, not, ◌+◌, ◌*◌, ◌^◌, ◌<◌, ◌≤◌, ◌%◌, length};
 ghost use Rattle.laws.specs.Lowest.{lowest};
 ghost use Rattle.laws.specs.Listed.{listed};
@@ -8,7 +11,7 @@ ghost use Rattle.reach.specs.Masks.{has_bit};
 ghost use Rattle.failure.specs.Blocks.{Failing, steady_total, steady_number, Unsteady};
 ghost use Rattle.failure.specs.Failure.{fails_at, number_at, failure_of, Narrow};
 
-#[derive(Drop)]
+#[derive(Clone, Copy)]
 pub enum Failure {
     None,
     At { number: usize, link: usize },

@@ -1,4 +1,7 @@
 // Does a state fit a table? Each check has a function of its own; the chain of the last five is the order of the checks.
+
+#![tactic(auto)]
+
 ghost use Rattle.std.specs.Prelude.{◌≡◌, ◌↔◌, ◌+◌, ◌*◌, ◌<◌, ◌≤◌, true, cond, not, eqb, ltb, leb, length, get_or};
 ghost use Rattle.laws.specs.Tests.{or};
 ghost use Rattle.laws.specs.Checks.{Holds, place_of, checked};

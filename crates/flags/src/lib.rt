@@ -1,4 +1,7 @@
 // Rows as a table of flags: how many there are, and their numbers, rising, to a lent buffer.
+
+#![tactic(auto)]
+
 ghost use Rattle.std.specs.Prelude.{◌≡◌, ◌++◌, ◌≤◌, length, drop};
 ghost use Rattle.laws.specs.Listed.{listed, written};
 ghost use Rattle.flags.specs.Flags.{flagged};

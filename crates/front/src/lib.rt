@@ -1,4 +1,7 @@
 // Three questions about each row that its parent answers: whether one reaches it, whether it is held, whether it is live. One rising pass over the rows for each.
+
+#![tactic(auto)]
+
 ghost use Rattle.std.specs.Prelude.{◌≡◌, ◌+◌, ◌*◌, ◌≤◌, length, get_or, true, false, ◌&&◌, not, eqb};
 ghost use Rattle.laws.specs.Tests.{bit};
 ghost use Rattle.calculus.specs.Process.{pick};

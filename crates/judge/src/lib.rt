@@ -1,5 +1,8 @@
 // The judge of a table, for any numbers and any rows: each condition row and each term row is looked at once; where 13 is given, term rows once more, to find its row.
 // The last nine functions, read from the last, are the order of the checks.
+
+#![tactic(auto)]
+
 ghost use Rattle.std.specs.Prelude.{◌≡◌, ◌+◌, ◌*◌, ◌<◌, ◌≤◌, length, get_or};
 ghost use Rattle.laws.specs.Up.{Filled};
 ghost use Rattle.laws.specs.Checks.{place_of, checked};
@@ -130,7 +133,7 @@ fn note_children(named: &mut [u16; 256], kind: u8, a: u8, b: u8, c: u8)
 }
 
 // What checks 7, 13 and 8 ask of the rows so far: the links that an OUT row sets, those that two set, those that a JOIN's condition reaches, which it wants unless the sheet was compacted, and the lowest JOIN row whose condition reaches more than 8 links, n where there is none.
-#[derive(Drop)]
+#[derive(Clone, Copy)]
 struct Notes {
     linked: u64,
     twice: u64,

@@ -1,4 +1,7 @@
 // The value of a condition row under 64 link values at once, and its value with every false link unset: an operator is a few operations on words.
+
+#![tactic(auto)]
+
 ghost use Rattle.std.specs.Prelude.{◌≡◌, ◌+◌, ◌*◌, ◌<◌, ◌≤◌, length};
 ghost use Rattle.calculus.specs.Status.{truth};
 ghost use Rattle.conditions.specs.Operators.{AND, OR, EQ, NE};
@@ -6,7 +9,7 @@ ghost use Rattle.sheet.specs.Table.{condition_row_by, condition_row_at};
 ghost use Rattle.lanes.specs.Lanes.{Shows, lanes_at, link_lanes, Operated, Stepped, Valued};
 
 // The lanes that are true, those that are false, and those that keep their value with every false link unset. A lane that does not keep it is then unset.
-#[derive(Drop)]
+#[derive(Clone, Copy)]
 pub struct Lanes {
     pub trues: u64,
     pub falses: u64,

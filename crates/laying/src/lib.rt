@@ -1,4 +1,7 @@
 // Rows of four bytes one after another: a row is put into an array, and its new number is how many come before it.
+
+#![tactic(auto)]
+
 ghost use Rattle.std.specs.Prelude.{◌≡◌, ◌+◌, ◌≤◌, get_or, length};
 ghost use Rattle.std.proofs.Math.Seq.{paste};
 ghost use Rattle.laws.specs.Sums.{count};

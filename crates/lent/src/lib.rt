@@ -1,4 +1,7 @@
 // A caller that lends its own record: `step_in_place` is called on a local, and what was left in the local is handed back.
+
+#![tactic(auto)]
+
 ghost use Rattle.std.specs.Prelude.{◌≡◌};
 ghost use Rattle.sheet.specs.Table.{table_of};
 ghost use Rattle.sheet_engine.specs.Answers.{step_answer};
@@ -7,7 +10,7 @@ use sheet::Head;
 use state::{State, StepKind};
 
 // What the call answered, and what it left in the caller's record.
-#[derive(Drop)]
+#[derive(Clone, Copy)]
 pub struct Placed {
     pub answer: StepKind,
     pub state: State,

@@ -1,4 +1,7 @@
 // The program's lines, each put on a page: a lent buffer, filled from a place on.
+
+#![tactic(auto)]
+
 ghost use Rattle.std.specs.Prelude.{◌≡◌, ◌≤◌, length};
 ghost use Rattle.lines.specs.Page.{page, more, added};
 ghost use Rattle.lines.specs.Lines.{decimal, field, fields, named_line, step_line, verdict_line, refused_line, letter, letters, links_line, enabled_word, rows_line, wait_field, wait_fields, waiting_line, finished_line};

@@ -1,10 +1,13 @@
 // From standard input to standard output. What cannot be read or written is said on standard error: a refusal is the answer to a sheet that was read.
+
+#![tactic(auto)]
+
 ghost use Rattle.io.specs.Counts.{IsPrefixLen};
 
 use libc::{STDERR_FILENO, STDIN_FILENO, STDOUT_FILENO};
 
 // How many bytes were read, and whether a read failed behind them.
-#[derive(Drop)]
+#[derive(Clone, Copy)]
 struct Read {
     size: usize,
     failed: bool,

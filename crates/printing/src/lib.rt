@@ -1,4 +1,7 @@
 // What the program prints, from what it reads: input bytes to output bytes.
+
+#![tactic(auto)]
+
 ghost use Rattle.std.specs.Prelude.{◌≡◌, ◌<◌, ◌≤◌, length, take};
 ghost use Rattle.laws.specs.Checks.{checked};
 ghost use Rattle.laws.specs.Listed.{written};

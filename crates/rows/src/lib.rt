@@ -1,4 +1,7 @@
 // The children of a term row, by its bytes.
+
+#![tactic(auto)]
+
 ghost use Rattle.std.specs.Prelude.{◌≡◌, ◌+◌, ◌*◌, ◌≤◌, length};
 ghost use Rattle.steps.specs.Rows.{first_of, second_of};
 ghost use Rattle.steps.specs.InFront.{names};

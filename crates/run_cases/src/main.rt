@@ -1,11 +1,14 @@
 // The cases of data/: what the program prints, and what the calls answer, beside what has to be.
+
+#![tactic(auto)]
+
 use libc::STDOUT_FILENO;
 
 // More than any text of a case of the program.
 const TEXT: usize = 65792;
 
 // What answers an input: the program; the calls on a state; the calls on a table; the call that tells how a state stands, alone or with the one that tells what it waits for; the counts of a state; the call that compacts.
-#[derive(Drop)]
+#[derive(Clone, Copy)]
 enum Kind {
     Program,
     States,

@@ -1,4 +1,7 @@
 // The program once more, on sheet X, the sample of document 01.
+
+#![tactic(auto)]
+
 fn main() {
     port::run();
 }

@@ -1,4 +1,7 @@
 // Runs a sheet, as document 01's section "The program" says.
+
+#![tactic(auto)]
+
 fn main() {
     port::run();
 }

@@ -1,4 +1,7 @@
 // Rows of terms and conditions to try the calls on. A row that was not put is four zeros: NIL, or FALSE.
+
+#![tactic(auto)]
+
 ghost use Rattle.std.specs.Prelude.{◌<◌};
 
 pub fn put_row(rows: &mut [u8; 1024], row: u8, kind: u8, a: u8, b: u8, c: u8) {

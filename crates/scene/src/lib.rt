@@ -1,4 +1,7 @@
 // The term rows that show what a failing condition does, for link values as bytes: 0 unset, 1 false, 2 true.
+
+#![tactic(auto)]
+
 ghost use Rattle.std.specs.Prelude.{◌≡◌, ◌+◌, ◌*◌, ◌<◌, ◌≤◌, length};
 ghost use Rattle.laws.specs.Listed.{listed};
 ghost use Rattle.conditions.specs.Numbers.{assign};

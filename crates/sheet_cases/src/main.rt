@@ -1,4 +1,7 @@
 // Sheets and tables at each limit, with refusals 1 to 8, 12 and 13: what `codec` and `judge` answer when they read, judge and write.
+
+#![tactic(auto)]
+
 use codec::{SheetAnswer, SizeAnswer};
 use libc::STDOUT_FILENO;
 use samples::{put_acts, put_largest, put_links, put_outs, put_row, put_typical};

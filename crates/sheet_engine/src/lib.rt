@@ -1,4 +1,7 @@
 // The calls. Each judges the sheet or table that it is lent, and answers for every input; the two questions asked of a state alone judge nothing.
+
+#![tactic(auto)]
+
 ghost use Rattle.std.specs.Prelude.{◌≡◌, length};
 ghost use Rattle.sheet.specs.Table.{table_of};
 ghost use Rattle.laws.specs.Checks.{checked};
@@ -15,7 +18,7 @@ use state::{State, StepKind};
 use verdict::Verdict;
 
 // The verdict, with the lowest JOIN row that fails, its number and its link; or number and place of the refusal.
-#[derive(Drop)]
+#[derive(Clone, Copy)]
 pub enum VerdictAnswer {
     Pass,
     Fail {
@@ -27,7 +30,7 @@ pub enum VerdictAnswer {
 }
 
 // How a state stands: steps are listed; nothing is left; it waits for so many JOIN rows; or number and place of the refusal.
-#[derive(Drop)]
+#[derive(Clone, Copy)]
 pub enum StandingAnswer {
     Enabled,
     Finished,
@@ -36,7 +39,7 @@ pub enum StandingAnswer {
 }
 
 // Number and place of the refusal, and a state of zeros; or 0, 0 and a fresh state.
-#[derive(Drop)]
+#[derive(Clone, Copy)]
 pub struct Started {
     pub number: u8,
     pub place: usize,
@@ -44,7 +47,7 @@ pub struct Started {
 }
 
 // The size of the compacted sheet, or number and place; and the state that goes with the sheet, or the state as it was.
-#[derive(Drop)]
+#[derive(Clone, Copy)]
 pub struct Compacted {
     pub answer: SizeAnswer,
     pub state: State,

@@ -1,4 +1,7 @@
 // The small sheet that shows what the failing condition of a JOIN row does.
+
+#![tactic(auto)]
+
 ghost use Rattle.std.specs.Prelude.{◌≡◌, length};
 ghost use Rattle.sheet.specs.Table.{table_of};
 ghost use Rattle.sheet.specs.Rules.{refusal_of};

@@ -1,4 +1,7 @@
 // Cases of the calls that tell how a state stands and which links it waits for (call 1). The cases lend nothing and tell the rows all the same: each is tried with that, with more than enough, with just enough, and with a byte less.
+
+#![tactic(auto)]
+
 ghost use Rattle.std.specs.Prelude.{◌≡◌, ◌≤◌, length};
 
 use cases::{Told, byte, first, four, same_told, told_refused, told_size, told_word};

@@ -1,8 +1,11 @@
 // A state: the mode, one mark for each of 256 rows, one value for each of 64 links, how many ACT rows are left and how many links of the sheet are unset. A step changes it by five of the methods; `restart` makes the state of a compacted sheet.
+
+#![tactic(auto)]
+
 ghost use Rattle.std.specs.Prelude.{◌≡◌, ◌<◌, replicate};
 ghost use Rattle.state.specs.State.{fresh_of, pass_of, drop_of, decide_of, set_of, with_counts, restart_of};
 
-#[derive(Drop)]
+#[derive(Clone, Copy)]
 pub struct State {
     pub mode: u8,
     pub marks: [u8; 256],
@@ -12,7 +15,7 @@ pub struct State {
 }
 
 // What a step is, or why there is none: the activity; the link and its value, 0 or 1; a JOIN opened or cleaned away; number and place.
-#[derive(Drop)]
+#[derive(Clone, Copy)]
 pub enum StepKind {
     Act(u8),
     Set(u8, u8),

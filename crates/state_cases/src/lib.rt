@@ -1,4 +1,7 @@
 // Cases of calls on a state: the list of steps, and a step by its kind and by what it leaves.
+
+#![tactic(auto)]
+
 use cases::{Asked, Told, byte, four, same_told, told_kind, told_refused, wide};
 use sheet::Head;
 use state::{State, StepKind};

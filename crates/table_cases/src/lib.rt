@@ -1,4 +1,7 @@
 // Cases of calls on a table: it is judged, put to the verdict, started and written (call 1), and what was written is read back.
+
+#![tactic(auto)]
+
 use cases::{first, wide};
 use codec::{SheetAnswer, SizeAnswer};
 use sheet::{Head, Refusal};

@@ -1,4 +1,7 @@
 // The verdict of a table. Each condition row is tried once; number and link are searched for one JOIN only.
+
+#![tactic(auto)]
+
 ghost use Rattle.std.specs.Prelude.{◌≡◌, ◌+◌, ◌*◌, ◌<◌, ◌≤◌, length, get_or};
 ghost use Rattle.laws.specs.Up.{Filled};
 ghost use Rattle.sheet.specs.Table.{table_of, row_at};
@@ -9,7 +12,7 @@ ghost use Rattle.verdict.specs.Tried.{Tried, failure_in, marked};
 use failure::Failure;
 use sheet::Head;
 
-#[derive(Drop)]
+#[derive(Clone, Copy)]
 pub enum Verdict {
     Pass,
     Fail {

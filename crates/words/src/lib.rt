@@ -1,4 +1,7 @@
 // Which links have a given digit at 64 numbers at once: a word for each link.
+
+#![tactic(auto)]
+
 ghost use Rattle.std.specs.Prelude.{◌≡◌, ◌+◌, ◌^◌, ◌<◌, ◌≤◌, ◌%◌, length};
 ghost use Rattle.laws.specs.Listed.{listed};
 ghost use Rattle.reach.specs.Masks.{has_bit};

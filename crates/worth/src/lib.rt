@@ -1,4 +1,7 @@
 // What a condition is worth: its value and, where that is unset, the link it waits for; and what is told of the JOIN rows that wait.
+
+#![tactic(auto)]
+
 ghost use Rattle.std.specs.Prelude.{◌≡◌, not, ◌++◌, map, ℕ, ◌+◌, ◌-◌, ◌*◌, ◌<◌, ◌≤◌, eqb, length, get_or, drop};
 ghost use Rattle.laws.specs.Lowest.{lowest};
 ghost use Rattle.conditions.specs.Numbers.{undigit};
@@ -12,7 +15,7 @@ ghost use Rattle.worth.specs.Pass.{is_operand, lower_by, lowered, condition_byte
 use evaluate::Values;
 
 // The value of a condition; where it is unset, with the lowest unset link reached from it.
-#[derive(Drop)]
+#[derive(Clone, Copy)]
 pub enum Worth {
     Unset(u8),
     False,

@@ -1,0 +1,8 @@
+use Rattle.evaluate.specs.Values.{value_in}
+use mathlib.Core.Path.{refl}
+use borrow.Author.Rules.{rules}
+use Rattle.evaluate.proofs.value_in.Goals as goal
+
+pub returns : goal.returns
+unfolding value_in
+returns c = refl

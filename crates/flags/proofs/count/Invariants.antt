@@ -1,0 +1,13 @@
+use Prim.Native.Nat.{◌≤◌, ◌-◌}
+use native.Mathlib.Omega.{arith}
+use borrow.Author.Rules.{rules}
+use Rattle.laws.proofs.Tests.{bit_small}
+use Rattle.laws.proofs.Listed.{Counted, counted_none, counted_next, counted_end}
+use Rattle.flags.specs.Flags.{flagged}
+use Rattle.flags.proofs.count.Given as goal
+
+abbrev pub invariant-loop-i : goal.invariant-loop-i
+invariant-loop-i l = (l.i ≤ l.n) × ((l.found ≤ l.i) × Counted (flagged l.flags) l.n l.i l.found)
+
+abbrev pub decreases-loop-i : goal.decreases-loop-i
+decreases-loop-i l = l.n - l.i

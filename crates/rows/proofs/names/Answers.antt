@@ -1,0 +1,8 @@
+use Rattle.laws.proofs.Tests.{or_is}
+use Rattle.steps.specs.InFront.{names}
+use borrow.Author.Rules.{rules}
+use Rattle.rows.proofs.names.Goals as goal
+
+pub returns : goal.returns
+unfolding names
+returns c = rw (c.first.ensures, c.second.ensures) (or_is _ _)
