@@ -1,0 +1,8 @@
+use mathlib.Core.Path.{refl}
+use Rattle.judge.specs.Judge.{bumped}
+use borrow.Author.Rules.{rules}
+use Rattle.judge.proofs.bump.Goals as goal
+
+pub returns : goal.returns
+unfolding bumped
+returns c = refl

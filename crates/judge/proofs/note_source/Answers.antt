@@ -1,0 +1,7 @@
+use Rattle.judge.specs.Judge.{source_noted}
+use borrow.Author.Rules.{rules}
+use Rattle.judge.proofs.note_source.Goals as goal
+
+pub returns : goal.returns
+unfolding source_noted
+returns c = rw c.bit-bit.ensures

@@ -1,0 +1,5 @@
+use Rattle.lanes.proofs.Operators.{eq_lanes}
+use Rattle.lanes.proofs.equal.Goals as goal
+
+pub returns : goal.returns
+returns c = eq_lanes _ _ _

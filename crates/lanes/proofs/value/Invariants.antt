@@ -1,0 +1,11 @@
+use mathlib.Core.Path.{◌≡◌}
+use Prim.Native.Nat.{◌≤◌, ◌-◌}
+use Rattle.lanes.proofs.Rows.{Held, held_none, held_more, held_found}
+use native.Mathlib.Omega.{arith}
+use Rattle.lanes.proofs.value.Given as goal
+
+abbrev pub invariant-loop-i : goal.invariant-loop-i
+invariant-loop-i l = (l.i ≤ l.row) × Held l.evaluation l.cs l.lt l.lf l.i l.trues l.falses l.kept
+
+abbrev pub decreases-loop-i : goal.decreases-loop-i
+decreases-loop-i l = l.row - l.i

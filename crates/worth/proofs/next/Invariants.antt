@@ -1,0 +1,10 @@
+use Prim.Native.Nat.{◌-◌, ◌≤◌}
+use Rattle.worth.proofs.Places.{Clear, clear_none, clear_word, next_here, next_none}
+use native.Mathlib.Omega.{arith}
+use Rattle.worth.proofs.next.Given as goal
+
+abbrev pub invariant-loop-at : goal.invariant-loop-at
+invariant-loop-at l = (l.from ≤ l.at) × ((l.at ≤ 256) × Clear l.rows l.from l.at)
+
+abbrev pub decreases-loop-at : goal.decreases-loop-at
+decreases-loop-at l = 256 - l.at

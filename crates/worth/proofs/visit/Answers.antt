@@ -1,0 +1,7 @@
+use Rattle.sheet.specs.Table.{condition_row_at}
+use borrow.Author.Rules.{rules}
+use Rattle.worth.proofs.visit.Goals as goal
+
+pub returns : goal.returns
+unfolding condition_row_at
+returns c = c.visit_by.ensures
