@@ -167,7 +167,7 @@ module _ (t : Table) (g : Meets t) (s : State) where
       let (r, p, h) = step_old z z' f r' e in
       let (_, k, f') = step_follows z z' f r h in
       let k' : kind_at t' z' r' ≡ kind_at t z r = subst (λ (x : ℕ). kind_at t' z' x ≡ kind_at t z r) p k in
-      let (H, a, b) = run_back (subst (λ (x : ℕ). Follows (stepped_of t z r) (stepped_of t' z' x)) p f') G in
+      let (H, a, b) = run_back {z = stepped_of t z r} (subst (λ (x : ℕ). Follows (stepped_of t z r) (stepped_of t' z' x)) p f') G in
       (take r h H, (λ j. record { row = sym p j; kind = k' j } ∷ a j), b)
 
   -- ... and every run from the old state one from there.

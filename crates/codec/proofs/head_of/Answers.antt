@@ -1,0 +1,6 @@
+use Rattle.codec.proofs.Reading.{head_by}
+use borrow.Author.Rules.{rules}
+use Rattle.codec.proofs.head_of.Goals as goal
+
+pub returns : goal.returns
+returns c = head_by _ _ _ _ c.wide.ensures c.two.ensures.0 c.two-2.ensures.0

@@ -1,0 +1,10 @@
+use mathlib.Core.Path.{refl}
+use borrow.Author.Rules.{rules}
+use Rattle.codec.proofs.Writing.{copied_by, lay_short}
+use Rattle.codec.proofs.lay.Goals as goal
+
+pub returns-then-out-size : goal.returns-then-out-size
+returns-then-out-size c = (refl, lay_short c.args.h c.args.ts.now c.args.cs.now c.requires.terms_lent c.requires.conditions_lent c.args.out.now c.if-out-size.true)
+
+pub returns : goal.returns
+returns c = (refl, copied_by c.args.h c.args.ts.now c.args.cs.now c.requires.terms_lent c.requires.conditions_lent c.args.out.now c.if-out-size.false _ _ _ _ c.front-first.ensures c.copy.ensures c.copy-2.ensures c.copy-3.ensures)

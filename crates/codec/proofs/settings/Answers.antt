@@ -1,0 +1,15 @@
+use Rattle.sheet.specs.Sheet.{settings_of}
+use Rattle.codec.proofs.Parts.{part_whole, part_empty, read_framed}
+use native.Mathlib.Omega.{arith}
+use borrow.Author.Rules.{rules}
+use Rattle.codec.proofs.settings.Goals as goal
+
+pub slice_bounds-result-end : goal.slice_bounds-result-end
+slice_bounds-result-end c = let f = read_framed c.args.s.now _ c.read.ensures _ c.in-Sheet.is in omega (arith, f.long)
+
+pub returns-in-Sheet : goal.returns-in-Sheet
+unfolding settings_of
+returns-in-Sheet c = part_whole c.args.s.now _ _ c.read.ensures _ c.in-Sheet.is
+
+pub returns-in-Refused : goal.returns-in-Refused
+returns-in-Refused c = part_empty c.args.s.now _ _ c.read.ensures _ _ c.in-Refused.is

@@ -1,0 +1,6 @@
+use Rattle.codec.proofs.Reading.{settings_by}
+use borrow.Author.Rules.{rules}
+use Rattle.codec.proofs.settings_ok.Goals as goal
+
+pub returns : goal.returns
+returns c = settings_by _ _ _ c.entry_ok.ensures c.two.ensures.0
