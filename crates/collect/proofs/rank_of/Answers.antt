@@ -1,0 +1,5 @@
+use borrow.Author.Rules.{rules}
+use Rattle.collect.proofs.rank_of.Goals as goal
+
+pub returns : goal.returns
+returns c = cc

@@ -1,0 +1,24 @@
+use Prim.Native.Nat.{◌-◌, ◌≤◌}
+use mathlib.Core.Path.{◌≡◌, refl, sym}
+use native.Mathlib.Omega.{arith}
+use Rattle.laws.specs.Sums.{count}
+use Rattle.laws.proofs.Tests.{bit_small}
+use Rattle.laws.proofs.Sums.{count_zero, count_more}
+use Rattle.collect.specs.Kept.{Tells, kept_by}
+use Rattle.collect.proofs.Told.{tells_none, tells_up}
+use borrow.Author.Rules.{rules}
+use Rattle.collect.proofs.ranks.Goals as goal
+
+pub loop-i-init : goal.loop-i-init
+loop-i-init c = (omega arith, (omega arith, (tells_none _ _ _ refl, sym (count_zero _))))
+
+pub overflow_add-found : goal.overflow_add-found
+overflow_add-found c = omega (arith, bit_small c.is_kept.result)
+
+pub loop-i-preserved : goal.loop-i-preserved
+loop-i-preserved c =
+    let l = c.loop-i in
+    (omega arith, (omega (arith, bit_small c.is_kept.result), (tells_up _ _ l.i l.found l.table l.invariant.1.1.0 (omega arith) l.invariant.1.1.1, rw (l.invariant.1.1.1, c.is_kept.ensures) (sym (count_more _ l.i)))))
+
+pub returns : goal.returns
+returns c = let e : c.loop-i.i ≡ c.args.n = omega arith in rw e at c.loop-i.invariant.1.1.0

@@ -1,0 +1,20 @@
+use Prim.Native.Nat.{◌+◌, ◌-◌, ◌≤◌}
+use mathlib.Core.Path.{◌≡◌, sym, ◌∙◌}
+use mathlib.Core.Bool.{◌&&◌}
+use native.Mathlib.Omega.{arith}
+use lib.ListN.{get_or}
+use Rattle.laws.specs.Tests.{bit}
+use Rattle.laws.specs.Sums.{count}
+use Rattle.laws.proofs.Sums.{count_zero, count_more}
+use Rattle.steps.specs.InFront.{waiting_act}
+use Rattle.sheet.specs.Table.{row_at}
+use Rattle.flags.specs.Flags.{flagged}
+use Rattle.counts.proofs.Rows.{acts_fit, acts_read}
+use borrow.Author.Rules.{rules}
+use Rattle.counts.proofs.acts.Given as goal
+
+abbrev pub invariant-loop-row : goal.invariant-loop-row
+invariant-loop-row l = (l.row ≤ l.n) × (l.found ≡ count (λ k. waiting_act (row_at l.ts k) (get_or l.marks k 0) && flagged l.live k) l.row)
+
+abbrev pub decreases-loop-row : goal.decreases-loop-row
+decreases-loop-row l = l.n - l.row

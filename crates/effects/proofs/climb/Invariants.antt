@@ -1,0 +1,11 @@
+use mathlib.Core.Path.{sym, ◌∙◌}
+use Prim.Native.Nat.{◌≤◌, ◌<◌}
+use native.Mathlib.Omega.{arith}
+use Rattle.effects.proofs.Climbing.{Climbs, climb_start, climb_hit, climb_miss, climb_end, names_parent}
+use Rattle.effects.proofs.climb.Given as goal
+
+abbrev pub invariant-loop-p : goal.invariant-loop-p
+invariant-loop-p l = Climbs l.ts l.n l.old l.row l.initial.state l.at l.p l.state
+
+abbrev pub decreases-loop-p : goal.decreases-loop-p
+decreases-loop-p l = l.p

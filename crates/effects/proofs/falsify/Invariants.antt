@@ -1,0 +1,13 @@
+use mathlib.Core.Path.{◌≡◌, refl, sym, ap, ◌∙◌}
+use Prim.Native.Nat.{◌≤◌, ◌-◌, ◌+◌}
+use native.Mathlib.Omega.{arith}
+use Rattle.reach.specs.Masks.{has_bit}
+use Rattle.moves.specs.Steps.{falsify_from}
+use Rattle.effects.proofs.Climbing.{falsify_hit, falsify_miss, falsify_end}
+use Rattle.effects.proofs.falsify.Given as goal
+
+abbrev pub invariant-loop-l : goal.invariant-loop-l
+invariant-loop-l l = (l.l ≤ 64) × (falsify_from (has_bit l.word) 0 64 l.initial.state ≡ falsify_from (has_bit l.word) l.l (64 - l.l) l.state)
+
+abbrev pub decreases-loop-l : goal.decreases-loop-l
+decreases-loop-l l = 64 - l.l

@@ -1,0 +1,15 @@
+use Prim.Native.Nat.{◌≤◌, ◌-◌}
+use mathlib.Core.Path.{◌≡◌}
+use native.Mathlib.Omega.{arith}
+use lib.ListN.{get_or}
+use Rattle.steps.specs.Push.{Pushed}
+use Rattle.sheet.specs.Table.{row_at}
+use Rattle.front.specs.Asked.{asked_at}
+use Rattle.front.proofs.Asking.{asked_none, asked_more, asked_all}
+use Rattle.front.proofs.ask.Given as goal
+
+abbrev pub invariant-loop-i : goal.invariant-loop-i
+invariant-loop-i l = (l.i ≤ l.n) × Pushed (row_at l.ts) (asked_at l.asked (row_at l.ts) (λ k. get_or l.marks k 0)) l.n l.i l.table
+
+abbrev pub decreases-loop-i : goal.decreases-loop-i
+decreases-loop-i l = l.n - l.i

@@ -1,0 +1,5 @@
+use borrow.Author.Rules.{rules}
+use Rattle.front.proofs.pick_next.Goals as goal
+
+pub returns : goal.returns
+returns c = rw (← c.opens-open.ensures) c.next_by.ensures
