@@ -4,4 +4,4 @@ use Rattle.collect.proofs.kept_rows.Goals as goal
 
 pub returns : goal.returns
 returns c = λ cs.
-    terms_are _ c.requires.0.1.1 _ _ _ _ c.ask.ensures c.tops.ensures c.ranks.ensures _ _ c.new_rows.ensures
+    terms_are _ c.requires.0.1.1 _ _ _ _ c.ask-live.ensures c.tops-tops.ensures c.ranks-ranks.ensures _ _ c.new_rows.ensures

@@ -22,7 +22,7 @@ returns-in-3 c = new_step _ _ _ _ _ (row_join _ _ _ _ c.in-3.is) (rw (← c.rank
 
 pub returns-in-4 : goal.returns-in-4
 unfolding row_at row_bytes
-returns-in-4 c = new_branch _ _ _ _ _ (row_pick _ _ _ _ c.in-4.is) c.Branch-row.ensures
+returns-in-4 c = new_branch _ _ _ _ _ (row_pick _ _ _ _ c.in-4.is) c.branch_row.ensures
 
 pub returns-in-5 : goal.returns-in-5
 unfolding row_at row_bytes

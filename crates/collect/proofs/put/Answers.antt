@@ -4,4 +4,4 @@ use borrow.Author.Rules.{rules}
 use Rattle.collect.proofs.put.Goals as goal
 
 pub returns : goal.returns
-returns c = let l = c.requires.0 in paste_four c.args.out.now c.args.at c.args.t3 (omega (arith, l.0)) l.1
+returns c = let l = c.requires.0 in paste_four c.args.out.now c.args.at c.args.row (omega (arith, l.0)) l.1

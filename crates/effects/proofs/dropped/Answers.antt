@@ -7,4 +7,4 @@ falsify_below-cleaned-requires c = let q = c.requires in (q.0.1.1.0, (q.0.1.0, (
 
 pub returns : goal.returns
 unfolding dropped_of
-returns c = rw (c.counted.ensures, c.falsify_below-cleaned.ensures, c.first.ensures, c.drop-join.ensures)
+returns c = rw (c.counted.ensures, c.falsify_below-cleaned.ensures, c.first.ensures, c.drop_join-next.ensures)

@@ -14,4 +14,4 @@ pub bounds-out-at-4 : goal.bounds-out-at-4
 bounds-out-at-4 c = simp length-set (omega arith)
 
 pub returns : goal.returns
-returns c = paste_four c.args.out.now c.args.at c.args.t3 (omega arith) c.requires.0
+returns c = paste_four c.args.out.now c.args.at c.args.row (omega arith) c.requires.0
