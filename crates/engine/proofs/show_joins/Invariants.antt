@@ -1,0 +1,15 @@
+use Prim.Native.Nat.{◌≤◌, ◌-◌}
+use mathlib.Core.Path.{◌≡◌, ap}
+use native.Mathlib.Omega.{arith}
+use borrow.Author.Rules.{rules}
+use Rattle.laws.specs.Tests.{bit}
+use Rattle.flags.specs.Flags.{Shows}
+use Rattle.flags.proofs.Shown.{shows_none, shows_more}
+use Rattle.engine.specs.ByValue.{join_from}
+use Rattle.engine.proofs.show_joins.Given as goal
+
+abbrev pub invariant-loop-i : goal.invariant-loop-i
+invariant-loop-i l = (l.i ≤ l.n) × Shows (join_from l.ts l.marks l.reached) l.i l.flags
+
+abbrev pub decreases-loop-i : goal.decreases-loop-i
+decreases-loop-i l = l.n - l.i

@@ -1,0 +1,18 @@
+use Prim.Native.Nat.{◌≤◌, ◌-◌}
+use mathlib.Core.Path.{◌≡◌, ap}
+use native.Mathlib.Omega.{arith}
+use borrow.Author.Rules.{rules}
+use Rattle.laws.specs.Tests.{bit}
+use Rattle.flags.specs.Flags.{Shows}
+use Rattle.flags.proofs.Shown.{shows_none, shows_more}
+use Rattle.engine.specs.ByValue.{step_from}
+use Rattle.engine.proofs.show_steps.Goals as goal
+
+pub loop-i-init : goal.loop-i-init
+loop-i-init c = (omega arith, shows_none _ _ c.requires.0)
+
+pub loop-i-preserved : goal.loop-i-preserved
+loop-i-preserved c = let l = c.loop-i in (omega arith, shows_more _ l.i _ l.flags l.invariant.1 (omega arith) (ap bit c.has_step.ensures))
+
+pub returns : goal.returns
+returns c = let e : c.loop-i.i ≡ c.args.n = omega arith in rw e at c.loop-i.invariant.1

@@ -1,0 +1,15 @@
+use Prim.Native.Nat.{◌≤◌, ◌-◌}
+use mathlib.Core.Path.{◌≡◌, ap}
+use native.Mathlib.Omega.{arith}
+use borrow.Author.Rules.{rules}
+use Rattle.laws.specs.Tests.{bit}
+use Rattle.flags.specs.Flags.{Shows}
+use Rattle.flags.proofs.Shown.{shows_none, shows_more}
+use Rattle.engine.specs.ByValue.{step_from}
+use Rattle.engine.proofs.show_steps.Given as goal
+
+abbrev pub invariant-loop-i : goal.invariant-loop-i
+invariant-loop-i l = (l.i ≤ l.n) × Shows (step_from l.ts l.n l.mode l.marks l.reached l.vals) l.i l.flags
+
+abbrev pub decreases-loop-i : goal.decreases-loop-i
+decreases-loop-i l = l.n - l.i

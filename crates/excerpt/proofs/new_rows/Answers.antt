@@ -1,0 +1,30 @@
+use Prim.Native.Nat.{◌-◌, ◌≤◌}
+use native.Mathlib.Omega.{arith}
+use borrow.Author.Tests.{eq-eqb, ne_eqb}
+use Rattle.sheet.specs.Table.{condition_row_at}
+use Rattle.flags.specs.Flags.{flagged}
+use Rattle.laying.proofs.Laid.{Laid, laid_none, laid_miss, laid_put, laid_all}
+use Rattle.excerpt.specs.Excerpt.{new_bytes}
+use Rattle.excerpt.proofs.ByKind.{new_four}
+use Rattle.excerpt.proofs.new_rows.Goals as goal
+
+pub loop-i-init : goal.loop-i-init
+loop-i-init c = (omega arith, (omega arith, laid_none _ _ _ _))
+
+pub put-requires : goal.put-requires
+put-requires c = (new_four _ _ _ c.new_row-row.ensures, omega (arith, c.loop-i.invariant.1.1.size))
+
+pub loop-i-preserved-then-flags-i-eq1 : goal.loop-i-preserved-then-flags-i-eq1
+loop-i-preserved-then-flags-i-eq1 c =
+    let l = c.loop-i in
+    let row = c.new_row-row.ensures in
+    (omega arith, (omega arith, rw c.put.ensures (laid_put _ _ _ _ l.i l.count l.out l.invariant.1.1 _ (omega arith) (omega (arith, l.invariant.1.1.size)) (eq-eqb _ 1 c.if-flags-i-eq1.true) row (new_four _ _ _ row))))
+
+pub loop-i-preserved : goal.loop-i-preserved
+loop-i-preserved c = let l = c.loop-i in (omega arith, (omega arith, laid_miss _ _ _ _ l.i l.count l.out l.invariant.1.1 (omega arith) (ne_eqb _ 1 c.if-flags-i-eq1.false)))
+
+pub shape_of-out : goal.shape_of-out
+shape_of-out c = c.loop-i.invariant.1.1.size
+
+pub returns : goal.returns
+returns c = let l = c.loop-i in laid_all _ _ _ _ l.i _ _ l.invariant.1.1 (omega arith)

@@ -1,0 +1,12 @@
+use Prim.Native.Nat.{◌+◌, ◌-◌, ◌≤◌}
+use mathlib.Core.Path.{◌≡◌}
+use native.Mathlib.Omega.{arith}
+use Rattle.sheet.specs.Table.{condition_row_at}
+use Rattle.excerpt.proofs.Flagging.{Flagging, flagging_none, flagging_hit, flagging_miss, flagging_all}
+use Rattle.excerpt.proofs.reached_rows.Given as goal
+
+abbrev pub invariant-loop-i : goal.invariant-loop-i
+invariant-loop-i l = (l.i ≤ l.c + 1) × Flagging l.cs l.c l.i l.flags
+
+abbrev pub decreases-loop-i : goal.decreases-loop-i
+decreases-loop-i l = l.i

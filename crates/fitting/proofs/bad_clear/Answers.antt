@@ -1,0 +1,28 @@
+use mathlib.Core.Path.{◌∙◌}
+use borrow.Author.Tests.{not-true, not-false}
+use Rattle.fitting.proofs.Places.{clear_read}
+use Prim.Native.Nat.{◌-◌}
+use lib.ListN.{get_or}
+use Rattle.laws.proofs.Checks.{Scanned, scanned_none, scanned_more, scanned_stop, scanned_end}
+use Rattle.moves.specs.Fits.{clear_fit}
+use native.Mathlib.Omega.{arith}
+use Rattle.fitting.proofs.bad_clear.Goals as goal
+
+pub loop-row-init : goal.loop-row-init
+loop-row-init c = scanned_none _
+
+pub clear_ok-requires : goal.clear_ok-requires
+clear_ok-requires c = (omega arith, c.requires.1.0)
+
+pub returns-then-not-clear_ok : goal.returns-then-not-clear_ok
+returns-then-not-clear_ok c =
+    scanned_stop _ _ c.loop-row.invariant c.loop-row-test.true
+    (clear_read _ _ _ _ _ c.loop-row-test.true _ _ c.requires.1.1 c.clear_ok.ensures ∙ c.if-not-clear_ok.true)
+
+pub loop-row-preserved : goal.loop-row-preserved
+loop-row-preserved c =
+    scanned_more _ _ c.loop-row.invariant c.loop-row-test.true
+    (clear_read _ _ _ _ _ c.loop-row-test.true _ _ c.requires.1.1 c.clear_ok.ensures ∙ c.if-not-clear_ok.false)
+
+pub returns : goal.returns
+returns c = scanned_end _ _ c.loop-row.invariant c.loop-row-test.false

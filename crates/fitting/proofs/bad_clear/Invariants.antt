@@ -1,0 +1,15 @@
+use mathlib.Core.Path.{◌∙◌}
+use borrow.Author.Tests.{not-true, not-false}
+use Rattle.fitting.proofs.Places.{clear_read}
+use Prim.Native.Nat.{◌-◌}
+use lib.ListN.{get_or}
+use Rattle.laws.proofs.Checks.{Scanned, scanned_none, scanned_more, scanned_stop, scanned_end}
+use Rattle.moves.specs.Fits.{clear_fit}
+use native.Mathlib.Omega.{arith}
+use Rattle.fitting.proofs.bad_clear.Given as goal
+
+abbrev pub invariant-loop-row : goal.invariant-loop-row
+invariant-loop-row l = Scanned (clear_fit l.ts l.n (λ k. get_or l.marks k 0) l.links) l.row
+
+abbrev pub decreases-loop-row : goal.decreases-loop-row
+decreases-loop-row l = l.n - l.row

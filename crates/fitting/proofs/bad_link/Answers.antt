@@ -1,0 +1,20 @@
+use mathlib.Core.Path.{◌∙◌}
+use borrow.Author.Tests.{not-true, not-false}
+use Rattle.fitting.proofs.Places.{link_read}
+use Prim.Native.Nat.{◌-◌}
+use Rattle.laws.proofs.Checks.{Scanned, scanned_none, scanned_more, scanned_stop, scanned_end}
+use Rattle.moves.specs.Fits.{links_fit}
+use native.Mathlib.Omega.{arith}
+use Rattle.fitting.proofs.bad_link.Goals as goal
+
+pub loop-link-init : goal.loop-link-init
+loop-link-init c = scanned_none _
+
+pub returns-then-not-link_ok : goal.returns-then-not-link_ok
+returns-then-not-link_ok c = scanned_stop _ _ c.loop-link.invariant c.loop-link-test.true (link_read _ _ _ _ c.link_ok.ensures ∙ c.if-not-link_ok.true)
+
+pub loop-link-preserved : goal.loop-link-preserved
+loop-link-preserved c = scanned_more _ _ c.loop-link.invariant c.loop-link-test.true (link_read _ _ _ _ c.link_ok.ensures ∙ c.if-not-link_ok.false)
+
+pub returns : goal.returns
+returns c = scanned_end _ _ c.loop-link.invariant c.loop-link-test.false

@@ -1,0 +1,14 @@
+use mathlib.Core.Path.{◌∙◌}
+use borrow.Author.Tests.{not-true, not-false}
+use Rattle.fitting.proofs.Places.{link_read}
+use Prim.Native.Nat.{◌-◌}
+use Rattle.laws.proofs.Checks.{Scanned, scanned_none, scanned_more, scanned_stop, scanned_end}
+use Rattle.moves.specs.Fits.{links_fit}
+use native.Mathlib.Omega.{arith}
+use Rattle.fitting.proofs.bad_link.Given as goal
+
+abbrev pub invariant-loop-link : goal.invariant-loop-link
+invariant-loop-link l = Scanned (links_fit l.m l.links) l.link
+
+abbrev pub decreases-loop-link : goal.decreases-loop-link
+decreases-loop-link l = 64 - l.link

@@ -1,0 +1,24 @@
+use mathlib.Core.Path.{◌∙◌}
+use borrow.Author.Tests.{not-true, not-false}
+use Rattle.fitting.proofs.Places.{wait_read}
+use Prim.Native.Nat.{◌-◌}
+use lib.ListN.{get_or}
+use Rattle.laws.proofs.Checks.{Scanned, scanned_none, scanned_more, scanned_stop, scanned_end}
+use Rattle.moves.specs.Fits.{waits_fit}
+use native.Mathlib.Omega.{arith}
+use Rattle.fitting.proofs.bad_wait.Goals as goal
+
+pub ask-held-requires : goal.ask-held-requires
+ask-held-requires c = c.requires
+
+pub loop-row-init : goal.loop-row-init
+loop-row-init c = scanned_none _
+
+pub returns-then-not-wait_ok : goal.returns-then-not-wait_ok
+returns-then-not-wait_ok c = scanned_stop _ _ c.loop-row.invariant c.loop-row-test.true (wait_read _ _ _ _ _ c.loop-row-test.true _ c.ask-held.ensures c.wait_ok.ensures ∙ c.if-not-wait_ok.true)
+
+pub loop-row-preserved : goal.loop-row-preserved
+loop-row-preserved c = scanned_more _ _ c.loop-row.invariant c.loop-row-test.true (wait_read _ _ _ _ _ c.loop-row-test.true _ c.ask-held.ensures c.wait_ok.ensures ∙ c.if-not-wait_ok.false)
+
+pub returns : goal.returns
+returns c = scanned_end _ _ c.loop-row.invariant c.loop-row-test.false

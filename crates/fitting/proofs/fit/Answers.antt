@@ -1,0 +1,13 @@
+use mathlib.Core.Path.{sym, ◌∙◌}
+use borrow.Author.Tests.{not-true, not-false}
+use Rattle.sheet.specs.Rules.{refuse}
+use Rattle.sheet.proofs.Refusals.{one_place_fails, one_place_holds}
+use native.Mathlib.Omega.{arith}
+use borrow.Author.Rules.{rules}
+use Rattle.fitting.proofs.fit.Goals as goal
+
+pub returns-then-not-mode_ok : goal.returns-then-not-mode_ok
+returns-then-not-mode_ok c = rw c.wide.ensures (one_place_fails refuse (refuse 0 0) _ _ (omega arith) (sym c.mode_ok.ensures ∙ c.if-not-mode_ok.true))
+
+pub returns : goal.returns
+returns c = c.fit_marks.ensures ∙ one_place_holds refuse (refuse 0 0) _ _ (omega arith) (sym c.mode_ok.ensures ∙ c.if-not-mode_ok.false)

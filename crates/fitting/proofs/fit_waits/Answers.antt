@@ -1,0 +1,11 @@
+use mathlib.Core.Path.{◌∙◌}
+use Rattle.laws.proofs.Checks.{checked_fails, checked_holds}
+use Rattle.sheet.specs.Rules.{refuse}
+use borrow.Author.Rules.{rules}
+use Rattle.fitting.proofs.fit_waits.Goals as goal
+
+pub returns-then-place-n : goal.returns-then-place-n
+returns-then-place-n c = checked_fails refuse (refuse 0 0) _ _ _ c.bad_wait-place.ensures c.if-place-n.true
+
+pub returns : goal.returns
+returns c = c.fit_clear.ensures ∙ checked_holds refuse (refuse 0 0) _ _ _ c.bad_wait-place.ensures c.if-place-n.false

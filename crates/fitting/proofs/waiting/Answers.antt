@@ -1,0 +1,26 @@
+use borrow.Author.Tests.{ne_eqb}
+use Rattle.steps.specs.InFront.{waiting}
+use Rattle.sheet.specs.Table.{row_by, row_at}
+use Rattle.fitting.proofs.ByKind.{waiting_rest}
+use borrow.Author.Rules.{rules}
+use Rattle.fitting.proofs.waiting.Goals as goal
+
+pub returns-in-1 : goal.returns-in-1
+unfolding row_at row_by waiting
+returns-in-1 c = rw c.in-1.is c.waits.ensures
+
+pub returns-in-2 : goal.returns-in-2
+unfolding row_at row_by waiting
+returns-in-2 c = rw c.in-2.is c.waits-in-2.ensures
+
+pub returns-in-3 : goal.returns-in-3
+unfolding row_at row_by waiting
+returns-in-3 c = rw c.in-3.is c.waits-in-3.ensures
+
+pub returns-in-4 : goal.returns-in-4
+unfolding row_at row_by waiting
+returns-in-4 c = rw c.in-4.is c.undecided.ensures
+
+pub returns-in_default : goal.returns-in_default
+unfolding row_at
+returns-in_default c = let m = c.in_default.in_default-own.rest in waiting_rest _ _ _ _ _ (ne_eqb _ 1 m.0.0.0.1) (ne_eqb _ 2 m.0.0.1) (ne_eqb _ 3 m.0.1) (ne_eqb _ 4 m.1)
