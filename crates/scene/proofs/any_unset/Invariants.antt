@@ -1,0 +1,21 @@
+use Prim.Native.Nat.{◌-◌, ◌≤◌}
+use mathlib.Core.Path.{◌≡◌, refl, sym, ◌∙◌}
+use native.Mathlib.Omega.{arith}
+use native.Mathlib.Nat.{sub-zero}
+use lib.Dec.{ltb}
+use lib.ListN.{get_or}
+use Rattle.laws.specs.Listed.{listed}
+use Rattle.laws.proofs.Tests.{and_l}
+use Rattle.laws.proofs.Listed.{left}
+use Rattle.reach.specs.Masks.{has_bit}
+use Rattle.evaluate.specs.Values.{links_in}
+use Rattle.damage.specs.Scene.{any_unset}
+use Rattle.scene.proofs.Bytes.{found_unset, none_unset}
+use Rattle.scene.proofs.Setting.{unset_here, unset_next, unset_none}
+use Rattle.scene.proofs.any_unset.Given as goal
+
+abbrev pub invariant-loop-l : goal.invariant-loop-l
+invariant-loop-l l = (l.l ≤ l.m) × (any_unset (links_in l.values) (listed (has_bit l.mask) 0 l.m) ≡ any_unset (links_in l.values) (left (has_bit l.mask) l.m l.l))
+
+abbrev pub decreases-loop-l : goal.decreases-loop-l
+decreases-loop-l l = l.m - l.l

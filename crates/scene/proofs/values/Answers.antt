@@ -1,0 +1,22 @@
+use Prim.Native.Nat.{◌-◌}
+use mathlib.Core.Path.{sym, ◌∙◌}
+use native.Mathlib.Omega.{arith}
+use Rattle.reach.specs.Masks.{has_bit}
+use Rattle.scene.proofs.Bytes.{Digits, digits_none, digits_hit, digits_miss, digits_all}
+use Rattle.scene.proofs.values.Goals as goal
+
+pub loop-l-init : goal.loop-l-init
+loop-l-init c = digits_none _ _ _
+
+pub loop-l-preserved-then-reached : goal.loop-l-preserved-then-reached
+loop-l-preserved-then-reached c =
+    let l = c.loop-l in
+    digits_hit _ _ _ c.requires l.l l.rest l.table l.invariant c.loop-l-test.true (sym c.reached.ensures ∙ c.if-reached.true)
+
+pub loop-l-preserved : goal.loop-l-preserved
+loop-l-preserved c =
+    let l = c.loop-l in
+    digits_miss _ _ _ c.requires l.l l.rest l.table l.invariant c.loop-l-test.true (sym c.reached.ensures ∙ c.if-reached.false)
+
+pub returns : goal.returns
+returns c = let l = c.loop-l in digits_all _ _ _ c.requires l.l l.rest l.table l.invariant c.loop-l-test.false

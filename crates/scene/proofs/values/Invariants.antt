@@ -1,0 +1,12 @@
+use Prim.Native.Nat.{◌-◌}
+use mathlib.Core.Path.{sym, ◌∙◌}
+use native.Mathlib.Omega.{arith}
+use Rattle.reach.specs.Masks.{has_bit}
+use Rattle.scene.proofs.Bytes.{Digits, digits_none, digits_hit, digits_miss, digits_all}
+use Rattle.scene.proofs.values.Given as goal
+
+abbrev pub invariant-loop-l : goal.invariant-loop-l
+invariant-loop-l l = Digits (has_bit l.mask) l.m l.x l.l l.rest l.table
+
+abbrev pub decreases-loop-l : goal.decreases-loop-l
+decreases-loop-l l = l.m - l.l
