@@ -5,4 +5,3 @@ pub mod Steps
 pub mod Stands
 pub mod Values
 pub mod Beyond
-pub mod Machine
