@@ -1,0 +1,5 @@
+use borrow.Author.Rules.{rules}
+use Rattle.lines.proofs.enabled_line.Goals as goal
+
+pub returns : goal.returns
+returns c = c.rows_line.ensures

@@ -1,0 +1,7 @@
+use Rattle.lines.specs.Lines.{finished_line}
+use borrow.Author.Rules.{rules}
+use Rattle.lines.proofs.finished_line.Goals as goal
+
+pub returns : goal.returns
+unfolding finished_line
+returns c = c.text.ensures

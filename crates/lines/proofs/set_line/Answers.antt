@@ -1,0 +1,7 @@
+use Rattle.lines.specs.Lines.{step_line}
+use borrow.Author.Rules.{rules}
+use Rattle.lines.proofs.set_line.Goals as goal
+
+pub returns : goal.returns
+unfolding step_line
+returns c = c.named_line.ensures

@@ -1,0 +1,25 @@
+use mathlib.Core.Path.{sym, ap, ◌∙◌}
+use Rattle.lines.specs.Page.{added}
+use Rattle.lines.specs.Lines.{step_line}
+use borrow.Author.Rules.{rules}
+use Rattle.lines.proofs.step_line.Goals as goal
+
+pub returns-in-Act : goal.returns-in-Act
+unfolding step_line
+returns-in-Act c = c.act_line.ensures ∙ ap (added _) (ap (step_line _) (sym c.in-Act.is))
+
+pub returns-in-Set : goal.returns-in-Set
+unfolding step_line
+returns-in-Set c = c.set_line.ensures ∙ ap (added _) (ap (step_line _) (sym c.in-Set.is))
+
+pub returns-in-Open : goal.returns-in-Open
+unfolding step_line
+returns-in-Open c = c.named_line.ensures ∙ ap (added _) (ap (step_line _) (sym c.in-Open.is))
+
+pub returns-in-Clean : goal.returns-in-Clean
+unfolding step_line
+returns-in-Clean c = c.named_line-in-Clean.ensures ∙ ap (added _) (ap (step_line _) (sym c.in-Clean.is))
+
+pub returns-in-Refused : goal.returns-in-Refused
+unfolding step_line
+returns-in-Refused c = c.refused_line.ensures ∙ ap (added _) (ap (step_line _) (sym c.in-Refused.is))

@@ -1,0 +1,17 @@
+use mathlib.Core.Path.{sym, ap, ◌∙◌}
+use Rattle.lines.specs.Page.{added}
+use Rattle.lines.specs.Lines.{verdict_line}
+use borrow.Author.Rules.{rules}
+use Rattle.lines.proofs.verdict_line.Goals as goal
+
+pub returns-in-Pass : goal.returns-in-Pass
+unfolding verdict_line
+returns-in-Pass c = c.text.ensures ∙ ap (added _) (ap verdict_line (sym c.in-Pass.is))
+
+pub returns-in-Fail : goal.returns-in-Fail
+unfolding verdict_line
+returns-in-Fail c = c.fail_line.ensures ∙ ap (added _) (ap verdict_line (sym c.in-Fail.is))
+
+pub returns-in-Refused : goal.returns-in-Refused
+unfolding verdict_line
+returns-in-Refused c = c.refused_line.ensures ∙ ap (added _) (ap verdict_line (sym c.in-Refused.is))
