@@ -12,24 +12,42 @@ use contract.Monad.{Fun, top, fact, fact_mono}
 use contract.Lifetimes.{Lfts}
 use denote.Triple.Entry.{Args, Res}
 use denote.Triple.Clauses.{AtExit}
-use Rattle.sheet_engine.proofs.read_sheet as read-sheet
-use Rattle.sheet_engine.proofs.settings_part as settings-part
-use Rattle.sheet_engine.proofs.terms_part as terms_part
-use Rattle.sheet_engine.proofs.conditions_part as conditions_part
-use Rattle.sheet_engine.proofs.judge_table as judge-table
-use Rattle.sheet_engine.proofs.write_sheet as write-sheet
-use Rattle.sheet_engine.proofs.give_verdict as give-verdict
-use Rattle.sheet_engine.proofs.start as start
-use Rattle.sheet_engine.proofs.list_steps as list_steps
-use Rattle.sheet_engine.proofs.standing as standing
-use Rattle.sheet_engine.proofs.waits_for as waits-for
-use Rattle.sheet_engine.proofs.acts_left as acts-left
-use Rattle.sheet_engine.proofs.links_unset as links-unset
-use Rattle.sheet_engine.proofs.step_kind as step-kind
-use Rattle.sheet_engine.proofs.take_step as take_step
-use Rattle.sheet_engine.proofs.step_in_place as step-in-place
-use Rattle.sheet_engine.proofs.compact as compact
-use Rattle.sheet_engine.proofs.damage_sheet as damage-sheet
+use Rattle.sheet_engine.proofs.read_sheet as read_sheet_call
+use Rattle.sheet_engine.proofs.settings_part as settings_part_call
+use Rattle.sheet_engine.proofs.terms_part as terms_part_call
+use Rattle.sheet_engine.proofs.conditions_part as conditions_part_call
+use Rattle.sheet_engine.proofs.judge_table as judge_table_call
+use Rattle.sheet_engine.proofs.write_sheet as write_sheet_call
+use Rattle.sheet_engine.proofs.give_verdict as give_verdict_call
+use Rattle.sheet_engine.proofs.start as start_call
+use Rattle.sheet_engine.proofs.list_steps as list_steps_call
+use Rattle.sheet_engine.proofs.standing as standing_call
+use Rattle.sheet_engine.proofs.waits_for as waits_for_call
+use Rattle.sheet_engine.proofs.acts_left as acts_left_call
+use Rattle.sheet_engine.proofs.links_unset as links_unset_call
+use Rattle.sheet_engine.proofs.step_kind as step_kind_call
+use Rattle.sheet_engine.proofs.take_step as take_step_call
+use Rattle.sheet_engine.proofs.step_in_place as step_in_place_call
+use Rattle.sheet_engine.proofs.compact as compact_call
+use Rattle.sheet_engine.proofs.damage_sheet as damage_sheet_call
+use Rattle.sheet_engine.specs.contracts.read_sheet as read_sheet_contract
+use Rattle.sheet_engine.specs.contracts.settings_part as settings_part_contract
+use Rattle.sheet_engine.specs.contracts.terms_part as terms_part_contract
+use Rattle.sheet_engine.specs.contracts.conditions_part as conditions_part_contract
+use Rattle.sheet_engine.specs.contracts.judge_table as judge_table_contract
+use Rattle.sheet_engine.specs.contracts.write_sheet as write_sheet_contract
+use Rattle.sheet_engine.specs.contracts.give_verdict as give_verdict_contract
+use Rattle.sheet_engine.specs.contracts.start as start_contract
+use Rattle.sheet_engine.specs.contracts.list_steps as list_steps_contract
+use Rattle.sheet_engine.specs.contracts.standing as standing_contract
+use Rattle.sheet_engine.specs.contracts.waits_for as waits_for_contract
+use Rattle.sheet_engine.specs.contracts.acts_left as acts_left_contract
+use Rattle.sheet_engine.specs.contracts.links_unset as links_unset_contract
+use Rattle.sheet_engine.specs.contracts.step_kind as step_kind_contract
+use Rattle.sheet_engine.specs.contracts.take_step as take_step_contract
+use Rattle.sheet_engine.specs.contracts.step_in_place as step_in_place_contract
+use Rattle.sheet_engine.specs.contracts.compact as compact_contract
+use Rattle.sheet_engine.specs.contracts.damage_sheet as damage_sheet_contract
 use Rattle.laws.specs.Checks.{Check}
 use Rattle.laws.specs.Listed.{written}
 use Rattle.sheet.specs.declared.Head.{Head}
@@ -63,65 +81,65 @@ pub use Rattle.sheet_engine.proofs.Values.{read_answers, write_answers, verdict_
 pub use Rattle.sheet_engine.proofs.Unique.{read_sheet_one, settings_part_one, terms_part_one, conditions_part_one, judge_table_one, write_sheet_one, give_verdict_one, start_one, acts_left_one, links_unset_one, list_steps_one, standing_one, waits_for_one, step_kind_one, take_step_one, step_in_place_one, compact_one, damage_sheet_one}
 
 -- "Every public call ends": each meets its contract, and a contract is met only by code that ends.
-pub every_call_ends : {M : Type 1} → read-sheet.Statement.statement M
-    × settings-part.Statement.statement M
-    × terms_part.Statement.statement M
-    × conditions_part.Statement.statement M
-    × judge-table.Statement.statement M
-    × write-sheet.Statement.statement M
-    × give-verdict.Statement.statement M
-    × start.Statement.statement M
-    × acts-left.Statement.statement M
-    × links-unset.Statement.statement M
-    × list_steps.Statement.statement M
-    × standing.Statement.statement M
-    × waits-for.Statement.statement M
-    × step-kind.Statement.statement M
-    × take_step.Statement.statement M
-    × step-in-place.Statement.statement M
-    × compact.Statement.statement M
-    × damage-sheet.Statement.statement M
+pub every_call_ends : {M : Type 1} → read_sheet_call.Statement.statement M
+    × settings_part_call.Statement.statement M
+    × terms_part_call.Statement.statement M
+    × conditions_part_call.Statement.statement M
+    × judge_table_call.Statement.statement M
+    × write_sheet_call.Statement.statement M
+    × give_verdict_call.Statement.statement M
+    × start_call.Statement.statement M
+    × acts_left_call.Statement.statement M
+    × links_unset_call.Statement.statement M
+    × list_steps_call.Statement.statement M
+    × standing_call.Statement.statement M
+    × waits_for_call.Statement.statement M
+    × step_kind_call.Statement.statement M
+    × take_step_call.Statement.statement M
+    × step_in_place_call.Statement.statement M
+    × compact_call.Statement.statement M
+    × damage_sheet_call.Statement.statement M
 every_call_ends = (
-  read-sheet.Met.met,
-  settings-part.Met.met,
-  terms_part.Met.met,
-  conditions_part.Met.met,
-  judge-table.Met.met,
-  write-sheet.Met.met,
-  give-verdict.Met.met,
-  start.Met.met,
-  acts-left.Met.met,
-  links-unset.Met.met,
-  list_steps.Met.met,
-  standing.Met.met,
-  waits-for.Met.met,
-  step-kind.Met.met,
-  take_step.Met.met,
-  step-in-place.Met.met,
-  compact.Met.met,
-  damage-sheet.Met.met,
+  read_sheet_call.Met.met,
+  settings_part_call.Met.met,
+  terms_part_call.Met.met,
+  conditions_part_call.Met.met,
+  judge_table_call.Met.met,
+  write_sheet_call.Met.met,
+  give_verdict_call.Met.met,
+  start_call.Met.met,
+  acts_left_call.Met.met,
+  links_unset_call.Met.met,
+  list_steps_call.Met.met,
+  standing_call.Met.met,
+  waits_for_call.Met.met,
+  step_kind_call.Met.met,
+  take_step_call.Met.met,
+  step_in_place_call.Met.met,
+  compact_call.Met.met,
+  damage_sheet_call.Met.met,
 )
 
 -- "and takes any bytes, table, state or row number": no contract asks anything of what is handed in.
 module _ {M : Type 1} {𝓤 : Ura M} (𝓛 : Logic 𝓤) (at_mem : Memory → SProp 𝓤) (run : Routine → Fun 𝓤) where
-  pub every_call_takes_any : AsksNothing 𝓤 read-sheet.ended (read-sheet.clauses 𝓛 at_mem run)
-      × AsksNothing 𝓤 settings-part.ended (settings-part.clauses 𝓛 at_mem run)
-      × AsksNothing 𝓤 terms_part.ended (terms_part.clauses 𝓛 at_mem run)
-      × AsksNothing 𝓤 conditions_part.ended (conditions_part.clauses 𝓛 at_mem run)
-      × AsksNothing 𝓤 judge-table.ended (judge-table.clauses 𝓛 at_mem run)
-      × AsksNothing 𝓤 write-sheet.ended (write-sheet.clauses 𝓛 at_mem run)
-      × AsksNothing 𝓤 give-verdict.ended (give-verdict.clauses 𝓛 at_mem run)
-      × AsksNothing 𝓤 start.ended (start.clauses 𝓛 at_mem run)
-      × AsksNothing 𝓤 acts-left.ended (acts-left.clauses 𝓛 at_mem run)
-      × AsksNothing 𝓤 links-unset.ended (links-unset.clauses 𝓛 at_mem run)
-      × AsksNothing 𝓤 list_steps.ended (list_steps.clauses 𝓛 at_mem run)
-      × AsksNothing 𝓤 standing.ended (standing.clauses 𝓛 at_mem run)
-      × AsksNothing 𝓤 waits-for.ended (waits-for.clauses 𝓛 at_mem run)
-      × AsksNothing 𝓤 step-kind.ended (step-kind.clauses 𝓛 at_mem run)
-      × AsksNothing 𝓤 take_step.ended (take_step.clauses 𝓛 at_mem run)
-      × AsksNothing 𝓤 step-in-place.ended (step-in-place.clauses 𝓛 at_mem run)
-      × AsksNothing 𝓤 compact.ended (compact.clauses 𝓛 at_mem run)
-      × AsksNothing 𝓤 damage-sheet.ended (damage-sheet.clauses 𝓛 at_mem run)
+  pub every_call_takes_any : AsksNothing 𝓤 read_sheet_contract.ended (read_sheet_contract.clauses 𝓛 at_mem run)
+      × AsksNothing 𝓤 settings_part_contract.ended (settings_part_contract.clauses 𝓛 at_mem run)
+      × AsksNothing 𝓤 terms_part_contract.ended (terms_part_contract.clauses 𝓛 at_mem run)
+      × AsksNothing 𝓤 conditions_part_contract.ended (conditions_part_contract.clauses 𝓛 at_mem run)
+      × AsksNothing 𝓤 judge_table_contract.ended (judge_table_contract.clauses 𝓛 at_mem run)
+      × AsksNothing 𝓤 write_sheet_contract.ended (write_sheet_contract.clauses 𝓛 at_mem run)
+      × AsksNothing 𝓤 give_verdict_contract.ended (give_verdict_contract.clauses 𝓛 at_mem run)
+      × AsksNothing 𝓤 start_contract.ended (start_contract.clauses 𝓛 at_mem run)
+      × AsksNothing 𝓤 acts_left_contract.ended (acts_left_contract.clauses 𝓛 at_mem run)
+      × AsksNothing 𝓤 links_unset_contract.ended (links_unset_contract.clauses 𝓛 at_mem run)
+      × AsksNothing 𝓤 list_steps_contract.ended (list_steps_contract.clauses 𝓛 at_mem run)
+      × AsksNothing 𝓤 standing_contract.ended (standing_contract.clauses 𝓛 at_mem run)
+      × AsksNothing 𝓤 waits_for_contract.ended (waits_for_contract.clauses 𝓛 at_mem run)
+      × AsksNothing 𝓤 step_kind_contract.ended (step_kind_contract.clauses 𝓛 at_mem run)
+      × AsksNothing 𝓤 take_step_contract.ended (take_step_contract.clauses 𝓛 at_mem run)
+      × AsksNothing 𝓤 step_in_place_contract.ended (step_in_place_contract.clauses 𝓛 at_mem run)
+      × AsksNothing 𝓤 compact_contract.ended (compact_contract.clauses 𝓛 at_mem run)
+      × AsksNothing 𝓤 damage_sheet_contract.ended (damage_sheet_contract.clauses 𝓛 at_mem run)
   every_call_takes_any = (
     λ κs a g P. top 𝓤 P,
     λ κs a g P. top 𝓤 P,
@@ -176,10 +194,10 @@ start_answers t mode = answered not_started (started 0 0 (start_of t mode)) (sta
 
 -- `acts_left` and `links_unset`: the number that the state holds. "No check concerns them": nothing is refused. By their own contracts, at every model.
 module _ {M : Type 1} {𝓤 : Ura M} (𝓛 : Logic 𝓤) (at_mem : Memory → SProp 𝓤) (run : Routine → Fun 𝓤) (κs : Lfts 0) where
-  pub acts_left_answers : (a : Args acts-left.signature κs) (z : AtExit acts-left.ended κs) (r : Res acts-left.signature κs) → ent 𝓤 ((acts-left.clauses 𝓛 at_mem run κs a).ensures tt r z) (fact 𝓤 (r ≡ acts_left a.0))
+  pub acts_left_answers : (a : Args acts_left_contract.signature κs) (z : AtExit acts_left_contract.ended κs) (r : Res acts_left_contract.signature κs) → ent 𝓤 ((acts_left_contract.clauses 𝓛 at_mem run κs a).ensures tt r z) (fact 𝓤 (r ≡ acts_left a.0))
   acts_left_answers a z r = fact_mono 𝓤 _ _ (λ told. told)
 
-  pub links_unset_answers : (a : Args links-unset.signature κs) (z : AtExit links-unset.ended κs) (r : Res links-unset.signature κs) → ent 𝓤 ((links-unset.clauses 𝓛 at_mem run κs a).ensures tt r z) (fact 𝓤 (r ≡ links_unset a.0))
+  pub links_unset_answers : (a : Args links_unset_contract.signature κs) (z : AtExit links_unset_contract.ended κs) (r : Res links_unset_contract.signature κs) → ent 𝓤 ((links_unset_contract.clauses 𝓛 at_mem run κs a).ensures tt r z) (fact 𝓤 (r ≡ links_unset a.0))
   links_unset_answers a z r = fact_mono 𝓤 _ _ (λ told. told)
 
 -- `list_steps`: their number, and their rows at the buffer's front; a refusal leaves the buffer as it was
@@ -216,7 +234,7 @@ pub take_step_answers : (t : Table) (s : State) (row : ℕ) → Answered (not_ta
 take_step_answers = step_answered
 
 -- `step_in_place`: the kind, and the caller's record holds the state after; a refusal leaves the record as it was. By its own contract, at every model.
-module _ {M : Type 1} {𝓤 : Ura M} (𝓛 : Logic 𝓤) (at_mem : Memory → SProp 𝓤) (run : Routine → Fun 𝓤) (κs : Lfts 3) (a : Args step-in-place.signature κs) where
+module _ {M : Type 1} {𝓤 : Ura M} (𝓛 : Logic 𝓤) (at_mem : Memory → SProp 𝓤) (run : Routine → Fun 𝓤) (κs : Lfts 3) (a : Args step_in_place_contract.signature κs) where
   -- the record as it was, the table and the row
   abbrev was : State
   was = a.0.now
@@ -227,7 +245,7 @@ module _ {M : Type 1} {𝓤 : Ura M} (𝓛 : Logic 𝓤) (at_mem : Memory → SP
   abbrev asked : ℕ
   asked = a.1.1.1.1.0
 
-  pub step_in_place_answers : (z : AtExit step-in-place.ended κs) (r : Res step-in-place.signature κs) → ent 𝓤 ((step-in-place.clauses 𝓛 at_mem run κs a).ensures tt r z) (fact 𝓤 (Answered {A = StepKind × State} (λ number place. (kind.Refused number place, was)) (kind_at its_table was asked, stepped_of its_table was asked) (row_checks its_table was asked) (r, z.0.now)))
+  pub step_in_place_answers : (z : AtExit step_in_place_contract.ended κs) (r : Res step_in_place_contract.signature κs) → ent 𝓤 ((step_in_place_contract.clauses 𝓛 at_mem run κs a).ensures tt r z) (fact 𝓤 (Answered {A = StepKind × State} (λ number place. (kind.Refused number place, was)) (kind_at its_table was asked, stepped_of its_table was asked) (row_checks its_table was asked) (r, z.0.now)))
   step_in_place_answers z r =
       fact_mono 𝓤 _ _ (λ (told, left, _). subst (Answered {A = StepKind × State} _ _ (row_checks its_table was asked)) (λ i. (sym told i, sym left i)) (map_answered (λ (x : Stepped). (x.answer, x.state)) (step_answered its_table was asked)))
 
