@@ -1,0 +1,44 @@
+use lib.ListN.{replicate}
+use mathlib.Core.Path.{refl, sym, ap, ◌∙◌}
+use native.Mathlib.Omega.{arith}
+use lib.Seq.{length-take-le}
+use Rattle.lines.specs.Page.{added}
+use Rattle.lines.specs.Lines.{last_line}
+use Rattle.lines.proofs.Pages.{then}
+use Rattle.printing.specs.Printed.{end_lines}
+use Rattle.promises.proofs.Calls.{formed}
+use Rattle.printing.proofs.Runs.{line_of, stand_unrefused, waited_lies, waited_part}
+use borrow.Author.Rules.{rules}
+use Rattle.printing.proofs.end_lines.Goals as goal
+
+pub links_line-end-requires : goal.links_line-end-requires
+links_line-end-requires c = let g = c.requires in omega (arith, (formed g).few_links, g.sized.all_links)
+
+pub slice_bounds-rows-end : goal.slice_bounds-rows-end
+slice_bounds-rows-end c =
+    waited_lies _ _ c.requires (replicate 256 0) refl _ c.standing.ensures.value.0 _ _ c.in-Waiting.is c.standing.ensures.value.1
+
+pub slice_bounds-waited_line-end : goal.slice_bounds-waited_line-end
+slice_bounds-waited_line-end c =
+    sym (length-take-le _ _ (waited_lies _ _ c.requires (replicate 256 0) refl _ c.standing.ensures.value.0 _ _ c.in-Waiting.is c.standing.ensures.value.1))
+
+pub waited_line-requires : goal.waited_line-requires
+waited_line-requires c =
+    let p = c.requires in
+    (p, waited_part _ _ p (replicate 256 0) refl _ c.standing.ensures.value.0 _ _ c.in-Waiting.is c.standing.ensures.value.1)
+
+pub returns-in-Enabled : goal.returns-in-Enabled
+unfolding end_lines last_line
+returns-in-Enabled c = then _ _ _ _ _ c.links_line-end.ensures (c.listed_line.ensures ∙ ap (added _) (line_of _ _ c.requires (replicate 256 0) refl _ c.standing.ensures.value.0 _ c.in-Enabled.is))
+
+pub returns-in-Finished : goal.returns-in-Finished
+unfolding end_lines last_line
+returns-in-Finished c = then _ _ _ _ _ c.links_line-end.ensures (c.finished_line.ensures ∙ ap (added _) (line_of _ _ c.requires (replicate 256 0) refl _ c.standing.ensures.value.0 _ c.in-Finished.is))
+
+pub returns-in-Waiting : goal.returns-in-Waiting
+unfolding end_lines last_line
+returns-in-Waiting c =
+    then _ _ _ _ _ c.links_line-end.ensures (c.waited_line.ensures ∙ ap (added _) (line_of _ _ c.requires (replicate 256 0) refl _ c.standing.ensures.value.0 _ c.in-Waiting.is))
+
+pub returns-in-Refused : goal.returns-in-Refused
+returns-in-Refused c = absurd (stand_unrefused _ _ c.requires (replicate 256 0) refl _ c.standing.ensures.value.0 _ _ (sym c.in-Refused.is))

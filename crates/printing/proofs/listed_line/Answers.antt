@@ -1,0 +1,25 @@
+use lib.ListN.{replicate}
+use mathlib.Core.Path.{refl, sym, ap, ◌∙◌}
+use lib.Seq.{length-take-le}
+use Rattle.lines.specs.Page.{added}
+use Rattle.lines.specs.Lines.{enabled_word, rows_line}
+use Rattle.printing.proofs.Runs.{fetched_lies, fetched_part, fetched_unrefused, listed_fetched}
+use borrow.Author.Rules.{rules}
+use Rattle.printing.proofs.listed_line.Goals as goal
+
+pub slice_bounds-rows-end : goal.slice_bounds-rows-end
+slice_bounds-rows-end c =
+    fetched_lies (listed_fetched _ _ c.requires (replicate 256 0) refl _ _ c.list_steps.ensures.value) _ c.in-Size.is
+
+pub slice_bounds-enabled_line-end : goal.slice_bounds-enabled_line-end
+slice_bounds-enabled_line-end c =
+    sym (length-take-le _ _ (fetched_lies (listed_fetched _ _ c.requires (replicate 256 0) refl _ _ c.list_steps.ensures.value) _ c.in-Size.is))
+
+pub returns-in-Size : goal.returns-in-Size
+returns-in-Size c =
+    let rows = fetched_part (listed_fetched _ _ c.requires (replicate 256 0) refl _ _ c.list_steps.ensures.value) _ c.in-Size.is in
+    c.enabled_line.ensures ∙ ap (added _) (ap (rows_line enabled_word) rows)
+
+pub returns-in-Refused : goal.returns-in-Refused
+returns-in-Refused c =
+    absurd (fetched_unrefused (listed_fetched _ _ c.requires (replicate 256 0) refl _ _ c.list_steps.ensures.value) _ _ c.in-Refused.is)
