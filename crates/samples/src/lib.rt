@@ -14,40 +14,34 @@ pub fn put_row(rows: &mut [u8; 1024], row: u8, kind: u8, a: u8, b: u8, c: u8) {
 
 // ACT rows, each with the next row as its child.
 pub fn put_acts(rows: &mut [u8; 1024], first: u8, end: u8) {
-    let mut row = first;
-    while row < end {
+    for row in first..end {
         put_row(rows, row, 1, row, row + 1, 0);
-        row += 1;
     }
 }
 
 // An OUT row for each link below `count`, from a row on, each with the next row as its child.
 pub fn put_outs(rows: &mut [u8; 1024], first: u8, count: u8) {
-    let mut link = 0;
     let mut row = first;
-    while link < count {
+    for link in 0..count {
         if 254 < row {
             return;
         }
         put_row(rows, row, 2, link, 1, row + 1);
         row += 1;
-        link += 1;
     }
 }
 
 // LINK 0, then for each further link below `count` a LINK row and an OR of all links so far. The last row reaches `count` links.
 pub fn put_links(rows: &mut [u8; 1024], count: u8) {
     put_row(rows, 0, 2, 0, 0, 0);
-    let mut link = 1;
     let mut row = 0;
-    while link < count {
+    for link in 1..count {
         if 253 < row {
             return;
         }
         put_row(rows, row + 1, 2, link, 0, 0);
         put_row(rows, row + 2, 4, row, row + 1, 0);
         row += 2;
-        link += 1;
     }
 }
 
@@ -99,10 +93,8 @@ fn put_largest_term(rows: &mut [u8; 1024], row: u8)
 }
 
 fn put_largest_terms(rows: &mut [u8; 1024]) {
-    let mut row = 0;
-    while row < 255 {
+    for row in 0..255 {
         put_largest_term(rows, row);
-        row += 1;
     }
 }
 
@@ -120,10 +112,8 @@ fn put_pair(rows: &mut [u8; 1024], pair: u8)
 }
 
 fn put_largest_conditions(rows: &mut [u8; 1024]) {
-    let mut pair = 0;
-    while pair < 128 {
+    for pair in 0..128 {
         put_pair(rows, pair);
-        pair += 1;
     }
 }
 
