@@ -3,12 +3,12 @@
 
 #![tactic(auto)]
 
-ghost use Rattle.std.specs.Prelude.{◌<◌};
-ghost use Rattle.io.specs.Counts.{IsPrefixLen};
+ghost use Rattle.std.specs.Prelude.{◌<◌, ◌≤◌, length};
 
 use codec::SizeAnswer;
 use sheet::Head;
 use state::{State, StepKind};
+use std::io::Read;
 
 // The file has ended: no number of four bytes is this great.
 pub const END: usize = 4294967296;
@@ -51,40 +51,55 @@ pub fn wide(x: u8) -> usize
     x as usize
 }
 
+// Reads until the buffer is full, the file ends or a read fails, and tells how many bytes were put at the start of the buffer.
+pub fn read_full(file: &mut impl Read, buffer: &mut [u8]) -> usize
+    ensures { result ≤ length buffer.new }
+{
+    let mut size = 0;
+    while size < buffer.len() {
+        match file.read(&mut buffer[size..]) {
+            Ok(0) => return size,
+            Ok(count) => size += count,
+            Err(_) => return size,
+        }
+    }
+    size
+}
+
 // The next byte, or 0 at the end.
-pub fn byte(file: i32) -> u8 {
+pub fn byte(file: &mut impl Read) -> u8 {
     let mut b = [0; 1];
-    io::read_full(file, &mut b);
+    read_full(file, &mut b);
     b[0]
 }
 
 // The next number of two bytes.
-pub fn two(file: i32) -> usize {
+pub fn two(file: &mut impl Read) -> usize {
     let mut b = [0; 2];
-    io::read_full(file, &mut b);
+    read_full(file, &mut b);
     wide(b[0]) + 256 * wide(b[1])
 }
 
 // The next number of four bytes, or END at the end.
-pub fn four(file: i32) -> usize {
+pub fn four(file: &mut impl Read) -> usize {
     let mut b = [0; 4];
-    if io::read_full(file, &mut b) < 4 {
+    if read_full(file, &mut b) < 4 {
         return END;
     }
     wide(b[0]) + 256 * (wide(b[1]) + 256 * (wide(b[2]) + 256 * wide(b[3])))
 }
 
 // The next text of that length, at the start of the buffer; nothing is read where it does not fit.
-pub fn read_text(file: i32, length: usize, text: &mut [u8]) -> usize
-    ensures { IsPrefixLen result text.new }
+pub fn read_text(file: &mut impl Read, size: usize, text: &mut [u8]) -> usize
+    ensures { result ≤ length text.new }
 {
-    if text.len() < length {
+    if text.len() < size {
         return 0;
     }
-    io::read_full(file, &mut text[..length])
+    read_full(file, &mut text[..size])
 }
 
-pub fn read_asked(file: i32) -> Asked {
+pub fn read_asked(file: &mut impl Read) -> Asked {
     let call = byte(file);
     let argument = four(file);
     let room = four(file);
@@ -96,14 +111,14 @@ pub fn read_asked(file: i32) -> Asked {
 }
 
 // A state; each of its counts is one byte.
-pub fn read_state(file: i32) -> State {
+pub fn read_state(file: &mut impl Read) -> State {
     let mode = byte(file);
     let acts = byte(file);
     let unset = byte(file);
     let mut marks = [0; 256];
-    io::read_full(file, &mut marks);
+    read_full(file, &mut marks);
     let mut links = [0; 64];
-    io::read_full(file, &mut links);
+    read_full(file, &mut links);
     State {
         mode,
         marks,
@@ -114,7 +129,7 @@ pub fn read_state(file: i32) -> State {
 }
 
 // A table up to its rows, which follow. Of a form (1 byte) and the length of names (2) this engine's tables know nothing: they are passed over.
-pub fn read_given(file: i32) -> Given {
+pub fn read_given(file: &mut impl Read) -> Given {
     let evaluation = byte(file);
     let m = two(file);
     let n = two(file);
@@ -194,19 +209,15 @@ fn same_numbers(a: State, b: State) -> bool {
 }
 
 fn same_links(a: State, b: State) -> bool {
-    let al = a.links;
-    let bl = b.links;
-    check::same(&al, &bl)
+    a.links == b.links
 }
 
 pub fn same_state(a: State, b: State) -> bool {
-    let am = a.marks;
-    let bm = b.marks;
-    same_numbers(a, b) & check::same(&am, &bm) & same_links(a, b)
+    same_numbers(a, b) & (a.marks == b.marks) & same_links(a, b)
 }
 
 // The state that has to come back: that of the case; where it is refused, the one that was handed in.
-pub fn state_after(file: i32, number: u8, s: State) -> State {
+pub fn state_after(file: &mut impl Read, number: u8, s: State) -> State {
     if number != 0 {
         return s;
     }
@@ -214,14 +225,14 @@ pub fn state_after(file: i32, number: u8, s: State) -> State {
 }
 
 // A lent buffer, beside the bytes of the case.
-pub fn buffer_agrees(file: i32, out: &[u8]) -> bool {
+pub fn buffer_agrees(file: &mut impl Read, out: &[u8]) -> bool {
     let mut expected = [0; SPACE];
     let length = read_text(file, out.len(), &mut expected);
-    check::same(&expected[..length], out)
+    &expected[..length] == out
 }
 
 // Number, place and size; all are there on refusal too.
-pub fn read_size(file: i32) -> Told {
+pub fn read_size(file: &mut impl Read) -> Told {
     let number = byte(file);
     let place = four(file);
     let x = four(file);
@@ -243,7 +254,7 @@ pub fn told_size(answer: SizeAnswer) -> Told {
 }
 
 // Such an answer, with the buffer as the call left it.
-pub fn size_agrees(file: i32, answer: SizeAnswer, out: &[u8]) -> bool {
+pub fn size_agrees(file: &mut impl Read, answer: SizeAnswer, out: &[u8]) -> bool {
     let expected = read_size(file);
     let same = buffer_agrees(file, out);
     same_told(told_size(answer), expected) & same
