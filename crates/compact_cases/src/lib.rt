@@ -6,6 +6,7 @@ use cases::{first, four, same_state};
 use codec::{SheetAnswer, SizeAnswer};
 use sheet::Head;
 use state::State;
+use std::io::Read;
 
 // The sheet and the state come out as they went in.
 fn made_again(sheet: &[u8], s: State, h: Head) -> bool {
@@ -20,7 +21,7 @@ fn made_again(sheet: &[u8], s: State, h: Head) -> bool {
     let answer = again.answer;
     let state = again.state;
     match answer {
-        SizeAnswer::Size(size) => check::same(first(&buffer, size), sheet) & same_state(state, s),
+        SizeAnswer::Size(size) => (first(&buffer, size) == sheet) & same_state(state, s),
         SizeAnswer::Refused(number, place) => false,
     }
 }
@@ -28,18 +29,25 @@ fn made_again(sheet: &[u8], s: State, h: Head) -> bool {
 fn sheet_agrees(sheet: &[u8], s: State) -> bool {
     match sheet_engine::read_sheet(sheet) {
         SheetAnswer::Sheet(h) => made_again(sheet, s, h),
-        SheetAnswer::Refused(number, place) => false,
+        SheetAnswer::Refused(_, _) => false,
     }
 }
 
 fn made_agrees(answer: SizeAnswer, out: &[u8], s: State) -> bool {
     match answer {
         SizeAnswer::Size(size) => sheet_agrees(first(out, size), s),
-        SizeAnswer::Refused(number, place) => true,
+        SizeAnswer::Refused(_, _) => true,
     }
 }
 
-fn compact_agrees(file: i32, s: State, h: Head, ts: &[u8], cs: &[u8], room: usize) -> bool {
+fn compact_agrees(
+    file: &mut impl Read,
+    s: State,
+    h: Head,
+    ts: &[u8],
+    cs: &[u8],
+    room: usize,
+) -> bool {
     let mut buffer = [cases::BLANK; cases::SPACE];
     let out = cases::lend(&mut buffer, room);
     let made = sheet_engine::compact(s, h, ts, cs, out);
@@ -55,7 +63,7 @@ fn compact_agrees(file: i32, s: State, h: Head, ts: &[u8], cs: &[u8], room: usiz
 }
 
 // The rest of a case, whose input begins here.
-pub fn agrees(file: i32) -> bool {
+pub fn agrees(file: &mut impl Read) -> bool {
     let asked = cases::read_asked(file);
     let s = cases::read_state(file);
     let given = cases::read_given(file);

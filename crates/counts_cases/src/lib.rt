@@ -7,6 +7,7 @@ ghost use Rattle.std.specs.Prelude.{◌≤◌, length};
 use cases::{Told, byte, four, same_told, told_kind, told_refused, told_word, two, wide};
 use sheet::Head;
 use state::State;
+use std::io::Read;
 
 // More than the rows that a case chooses, and more than its counts take.
 const RUN: usize = 1024;
@@ -41,18 +42,15 @@ fn run(fresh: State, h: Head, ts: &[u8], cs: &[u8], rows: &[u8], counts: &[u8]) 
 {
     let mut s = fresh;
     let mut agree = state_agrees(s, counts, 0);
-    let mut steps = 0;
-    while steps < rows.len() {
-        let next = sheet_engine::take_step(s, h, ts, cs, wide(rows[steps]));
-        let answer = next.answer;
+    for (steps, row) in rows.iter().enumerate() {
+        let next = sheet_engine::take_step(s, h, ts, cs, wide(*row));
         if !next.ok {
-            return told_run(told_kind(answer), agree, steps + 1);
+            return told_run(told_kind(next.answer), agree, steps + 1);
         }
         s = next.state;
-        steps += 1;
-        agree = agree & state_agrees(s, counts, steps);
+        agree &= state_agrees(s, counts, steps + 1);
     }
-    told_run(told_word(0, 0, 0), agree, steps + 1)
+    told_run(told_word(0, 0, 0), agree, rows.len() + 1)
 }
 
 // The run from the start, which may be refused.
@@ -76,7 +74,7 @@ fn counts_told(length: usize) -> usize {
 }
 
 // The output of a run, whose rows and table are read: number, place, then two counts for each state.
-fn run_agrees(file: i32, mode: u8, h: Head, ts: &[u8], cs: &[u8], rows: &[u8]) -> bool
+fn run_agrees(file: &mut impl Read, mode: u8, h: Head, ts: &[u8], cs: &[u8], rows: &[u8]) -> bool
     requires { length rows.now ≤ 1024 }
 {
     let length = four(file);
@@ -87,9 +85,10 @@ fn run_agrees(file: i32, mode: u8, h: Head, ts: &[u8], cs: &[u8], rows: &[u8]) -
     same_told(started(mode, h, ts, cs, rows, &c[..size]), expected)
 }
 
-fn call_run(file: i32, mode: u8) -> bool {
+fn call_run(file: &mut impl Read, mode: u8) -> bool {
     let mut r = [0; RUN];
-    let rows = cases::read_text(file, two(file), &mut r);
+    let size = two(file);
+    let rows = cases::read_text(file, size, &mut r);
     let given = cases::read_given(file);
     let mut t = [0; cases::SPACE];
     let terms = cases::read_text(file, given.terms, &mut t);
@@ -106,7 +105,7 @@ fn call_run(file: i32, mode: u8) -> bool {
 }
 
 // No call of these is refused: number and place are 0.
-fn call_questions(file: i32) -> bool {
+fn call_questions(file: &mut impl Read) -> bool {
     let s = cases::read_state(file);
     // the length of the output
     four(file);
@@ -126,7 +125,7 @@ fn mode_of(argument: usize) -> u8 {
 }
 
 // The rest of a case, whose input begins here.
-pub fn agrees(file: i32) -> bool {
+pub fn agrees(file: &mut impl Read) -> bool {
     let asked = cases::read_asked(file);
     let call = asked.call;
     match call {

@@ -6,6 +6,7 @@ use cases::{first, four, wide};
 use codec::{SheetAnswer, SizeAnswer};
 use sheet::Head;
 use state::{State, StepKind};
+use std::io::Read;
 
 // No row has this number.
 const NONE: usize = 256;
@@ -20,7 +21,7 @@ fn lowest(s: State, h: Head, ts: &[u8], cs: &[u8]) -> usize {
             }
             wide(rows[0])
         }
-        SizeAnswer::Refused(number, place) => NONE,
+        SizeAnswer::Refused(_, _) => NONE,
     }
 }
 
@@ -28,28 +29,25 @@ fn lowest(s: State, h: Head, ts: &[u8], cs: &[u8]) -> usize {
 fn noted(done: usize, kind: StepKind) -> usize {
     match kind {
         StepKind::Act(activity) => (done % 100) * 10 + wide(activity),
-        StepKind::Set(link, value) => done,
+        StepKind::Set(_, _) => done,
         StepKind::Open => done,
         StepKind::Clean => done,
-        StepKind::Refused(number, place) => 0,
+        StepKind::Refused(_, _) => 0,
     }
 }
 
 // What is done from a state on.
 fn done_from(fresh: State, h: Head, ts: &[u8], cs: &[u8]) -> usize {
     let mut s = fresh;
-    let mut done: usize = 0;
-    let mut steps: usize = 0;
-    while steps < NONE {
+    let mut done = 0;
+    for _ in 0..NONE {
         let row = lowest(s, h, ts, cs);
         if row == NONE {
             return done;
         }
         let next = sheet_engine::take_step(s, h, ts, cs, row);
-        let answer = next.answer;
-        done = noted(done, answer);
+        done = noted(done, next.answer);
         s = next.state;
-        steps += 1;
     }
     done
 }
@@ -66,18 +64,25 @@ fn shows(sheet: &[u8]) -> bool {
             let cs = sheet_engine::conditions_part(sheet);
             (does(1, h, ts, cs) == 12) & (does(0, h, ts, cs) == 1)
         }
-        SheetAnswer::Refused(number, place) => false,
+        SheetAnswer::Refused(_, _) => false,
     }
 }
 
 fn sheet_agrees(answer: SizeAnswer, out: &[u8]) -> bool {
     match answer {
         SizeAnswer::Size(size) => shows(first(out, size)),
-        SizeAnswer::Refused(number, place) => true,
+        SizeAnswer::Refused(_, _) => true,
     }
 }
 
-fn damage_agrees(file: i32, h: Head, ts: &[u8], cs: &[u8], row: usize, room: usize) -> bool {
+fn damage_agrees(
+    file: &mut impl Read,
+    h: Head,
+    ts: &[u8],
+    cs: &[u8],
+    row: usize,
+    room: usize,
+) -> bool {
     let mut buffer = [cases::BLANK; cases::SPACE];
     let out = cases::lend(&mut buffer, room);
     let answer = sheet_engine::damage_sheet(h, ts, cs, row, out);
@@ -86,7 +91,7 @@ fn damage_agrees(file: i32, h: Head, ts: &[u8], cs: &[u8], row: usize, room: usi
 }
 
 // The rest of a case, whose input begins here.
-pub fn agrees(file: i32) -> bool {
+pub fn agrees(file: &mut impl Read) -> bool {
     let asked = cases::read_asked(file);
     let given = cases::read_given(file);
     let mut t = [0; cases::SPACE];

@@ -2,12 +2,13 @@
 
 #![tactic(auto)]
 
-ghost use Rattle.std.specs.Prelude.{◌≡◌, ◌≤◌, length};
+ghost use Rattle.std.specs.Prelude.{◌≤◌};
 
 use cases::{Told, byte, first, four, same_told, told_refused, told_size, told_word};
 use sheet::Head;
 use sheet_engine::StandingAnswer;
 use state::State;
+use std::io::Read;
 
 // The words are 0 steps are listed, 1 finished, 2 waiting; the value is how many rows are waited for.
 fn told_answer(answer: StandingAnswer) -> Told {
@@ -31,7 +32,7 @@ fn rows_told(length: usize, linked: bool) -> usize {
 }
 
 // An output of that length up to its rows, which follow.
-fn read_told(file: i32, length: usize, linked: bool) -> Told {
+fn read_told(file: &mut impl Read, length: usize, linked: bool) -> Told {
     let number = byte(file);
     let place = four(file);
     if number != 0 {
@@ -59,18 +60,17 @@ fn at_most_256(count: usize) -> usize
 }
 
 // The rows and, where the file has them, the link behind each, at the start of two buffers.
-fn read_rows(file: i32, count: usize, linked: bool, rows: &mut [u8; 256], links: &mut [u8; 256])
-    requires { (length rows.old ≡ 256) × (length links.old ≡ 256) }
-{
-    let end = at_most_256(count);
-    let mut i = 0;
-    while i < end {
+fn read_rows(
+    file: &mut impl Read,
+    count: usize,
+    linked: bool,
+    rows: &mut [u8; 256],
+    links: &mut [u8; 256],
+) {
+    for i in 0..at_most_256(count) {
         rows[i] = byte(file);
         if linked {
             links[i] = byte(file);
-            i += 1;
-        } else {
-            i += 1;
         }
     }
 }
@@ -98,7 +98,7 @@ fn call_agrees(
     let out = cases::lend(&mut buffer, room);
     let told = called(of_links, s, h, ts, cs, out);
     let after = first(filled, out.len());
-    same_told(told, expected) & check::same(out, after)
+    same_told(told, expected) & (*out == *after)
 }
 
 // What is asked of a buffer of that length: where it is too short for the rows, 12 and their number, and it stays as it was.
@@ -148,7 +148,7 @@ fn rooms_agree(
 
 // The output of a case, beside the answers of both calls; of the one alone where the file has no links.
 fn standing_agrees(
-    file: i32,
+    file: &mut impl Read,
     room: usize,
     s: State,
     h: Head,
@@ -176,7 +176,7 @@ fn standing_agrees(
 }
 
 // The rest of a case, whose input begins here; each row of its output has its link behind it, or not.
-pub fn agrees(file: i32, linked: bool) -> bool {
+pub fn agrees(file: &mut impl Read, linked: bool) -> bool {
     let asked = cases::read_asked(file);
     let s = cases::read_state(file);
     let given = cases::read_given(file);

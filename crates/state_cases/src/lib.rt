@@ -5,8 +5,9 @@
 use cases::{Asked, Told, byte, four, same_told, told_kind, told_refused, wide};
 use sheet::Head;
 use state::{State, StepKind};
+use std::io::Read;
 
-fn read_told(file: i32) -> Told {
+fn read_told(file: &mut impl Read) -> Told {
     let number = byte(file);
     let place = four(file);
     if number != 0 {
@@ -29,7 +30,7 @@ fn left_agrees(answer: StepKind, state: State, expected: Told, after: State) -> 
 }
 
 // Asking for the kind of a step, taking it, and taking it on a lent record answer alike.
-fn step_agrees(file: i32, s: State, h: Head, ts: &[u8], cs: &[u8], row: usize) -> bool {
+fn step_agrees(file: &mut impl Read, s: State, h: Head, ts: &[u8], cs: &[u8], row: usize) -> bool {
     let expected = read_told(file);
     let after = cases::state_after(file, expected.number, s);
     let kind = sheet_engine::step_kind(s, h, ts, cs, row);
@@ -44,7 +45,7 @@ fn step_agrees(file: i32, s: State, h: Head, ts: &[u8], cs: &[u8], row: usize) -
         & left_agrees(told, record, expected, after)
 }
 
-fn list_agrees(file: i32, s: State, h: Head, ts: &[u8], cs: &[u8], room: usize) -> bool {
+fn list_agrees(file: &mut impl Read, s: State, h: Head, ts: &[u8], cs: &[u8], room: usize) -> bool {
     let mut buffer = [cases::BLANK; cases::SPACE];
     let out = cases::lend(&mut buffer, room);
     let answer = sheet_engine::list_steps(s, h, ts, cs, out);
@@ -52,7 +53,14 @@ fn list_agrees(file: i32, s: State, h: Head, ts: &[u8], cs: &[u8], room: usize) 
 }
 
 // Call 1 lists the steps, call 2 takes one.
-fn call_agrees(file: i32, asked: Asked, s: State, h: Head, ts: &[u8], cs: &[u8]) -> bool {
+fn call_agrees(
+    file: &mut impl Read,
+    asked: Asked,
+    s: State,
+    h: Head,
+    ts: &[u8],
+    cs: &[u8],
+) -> bool {
     let call = asked.call;
     match call {
         1 => list_agrees(file, s, h, ts, cs, asked.room),
@@ -62,7 +70,7 @@ fn call_agrees(file: i32, asked: Asked, s: State, h: Head, ts: &[u8], cs: &[u8])
 }
 
 // The rest of a case, whose input begins here.
-pub fn agrees(file: i32) -> bool {
+pub fn agrees(file: &mut impl Read) -> bool {
     let asked = cases::read_asked(file);
     let s = cases::read_state(file);
     let given = cases::read_given(file);

@@ -6,6 +6,7 @@ use cases::{first, wide};
 use codec::{SheetAnswer, SizeAnswer};
 use sheet::{Head, Refusal};
 use sheet_engine::VerdictAnswer;
+use std::io::Read;
 
 fn same_head(a: Head, b: Head) -> bool {
     (a.evaluation == b.evaluation) & (a.m == b.m) & (a.n == b.n) & (a.k == b.k)
@@ -22,7 +23,7 @@ fn settings_agree(part: &[u8], h: Head) -> bool {
 // The part is the first rows of those that were lent, as many as the table has.
 fn rows_agree(part: &[u8], rows: usize, lent: &[u8]) -> bool {
     let size = part.len();
-    (size % 4 == 0) & (size / 4 == rows) & check::same(part, first(lent, size))
+    (size % 4 == 0) & (size / 4 == rows) & (part == first(lent, size))
 }
 
 // A written sheet read back: its head, and the three parts.
@@ -34,7 +35,7 @@ fn sheet_agrees(sheet: &[u8], h: Head, ts: &[u8], cs: &[u8]) -> bool {
                 & rows_agree(sheet_engine::terms_part(sheet), h.n, ts)
                 & rows_agree(sheet_engine::conditions_part(sheet), h.k, cs)
         }
-        SheetAnswer::Refused(number, place) => false,
+        SheetAnswer::Refused(_, _) => false,
     }
 }
 
@@ -62,7 +63,7 @@ fn no_parts(sheet: &[u8]) -> bool {
 fn cut_agrees(cut: &[u8]) -> bool {
     let r = cut_refusal(cut.len());
     match sheet_engine::read_sheet(cut) {
-        SheetAnswer::Sheet(head) => false,
+        SheetAnswer::Sheet(_) => false,
         SheetAnswer::Refused(number, place) => {
             (number == r.number) & (place == r.place) & no_parts(cut)
         }
@@ -113,7 +114,7 @@ fn others_agree(answer: SizeAnswer, out: &[u8], h: Head, ts: &[u8], cs: &[u8]) -
     }
 }
 
-fn write_agrees(file: i32, h: Head, ts: &[u8], cs: &[u8], room: usize) -> bool {
+fn write_agrees(file: &mut impl Read, h: Head, ts: &[u8], cs: &[u8], room: usize) -> bool {
     let mut buffer = [cases::BLANK; cases::SPACE];
     let out = cases::lend(&mut buffer, room);
     let answer = sheet_engine::write_sheet(h, ts, cs, out);
@@ -122,7 +123,7 @@ fn write_agrees(file: i32, h: Head, ts: &[u8], cs: &[u8], room: usize) -> bool {
 }
 
 // The rest of a case, whose input begins here.
-pub fn agrees(file: i32) -> bool {
+pub fn agrees(file: &mut impl Read) -> bool {
     let asked = cases::read_asked(file);
     let given = cases::read_given(file);
     let mut t = [0; cases::SPACE];
