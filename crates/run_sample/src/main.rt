@@ -2,6 +2,6 @@
 
 #![tactic(auto)]
 
-fn main() {
-    port::run();
+fn main(rt: HostRuntime) {
+    port::run(&rt);
 }
