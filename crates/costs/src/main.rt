@@ -4,10 +4,10 @@
 #![tactic(auto)]
 
 use codec::{SheetAnswer, SizeAnswer};
-use libc::{STDIN_FILENO, STDOUT_FILENO};
 use sheet::Head;
 use sheet_engine::{StandingAnswer, VerdictAnswer};
 use state::{State, StepKind};
+use std::io;
 
 #[derive(Clone, Copy)]
 struct Seen {
@@ -208,11 +208,9 @@ fn called(
 // The state after steps; one that is refused changes nothing.
 fn after(s: State, h: Head, ts: &[u8], cs: &[u8], rows: &[u8]) -> State {
     let mut state = s;
-    let mut i = 0;
-    while i < rows.len() {
-        let next = sheet_engine::take_step(state, h, ts, cs, wide(rows[i]));
+    for row in rows {
+        let next = sheet_engine::take_step(state, h, ts, cs, wide(*row));
         state = next.state;
-        i += 1;
     }
     state
 }
@@ -283,16 +281,15 @@ fn split(call: u8, made: bool, mode: u8, row: u8, first: u8, s: &[u8]) -> Seen {
     run(call, made, mode, row, &s[..count], &s[count..])
 }
 
-fn print(x: usize, end: &[u8]) {
-    io::print_hex(STDOUT_FILENO, x as u64, 4);
-    io::write_all(STDOUT_FILENO, end);
+fn print(rt: &impl Print, x: usize, end: &str) -> io::Result<()> {
+    print!(rt; "{x:04x}{end}")
 }
 
-fn main() {
-    let mut buffer = io::buffer();
-    let n = io::read_full(STDIN_FILENO, &mut buffer);
+fn main(rt: HostRuntime) -> io::Result<()> {
+    let mut buffer = [0; 4096];
+    let n = cases::read_full(&mut rt.stdin(), &mut buffer);
     if n < 5 {
-        return;
+        return Ok(());
     }
     let seen = split(
         buffer[0],
@@ -302,7 +299,7 @@ fn main() {
         buffer[4],
         &buffer[5..n],
     );
-    print(seen.a, b" ");
-    print(seen.b, b" ");
-    print(seen.c, b"\n");
+    print(&rt, seen.a, " ")?;
+    print(&rt, seen.b, " ")?;
+    print(&rt, seen.c, "\n")
 }
