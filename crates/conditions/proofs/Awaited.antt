@@ -1,7 +1,7 @@
 -- The link that a condition waits for is reached, unset and the lowest such, and under both evaluations there is one wherever the value is unset. Assumes nothing.
 use Prim.Native.Nat.{ℕ, ◌+◌, ◌<◌, ◌≤◌}
 use mathlib.Core.Path.{◌≡◌, refl, sym, ◌∙◌, ap}
-use mathlib.Core.Bool.{Bool, true, false, not, true≢false}
+use mathlib.Core.Bool.{Bool, true, not, true≢false}
 use mathlib.Core.Logic.{◌↔◌, by_cases}
 use native.Mathlib.Omega.{arith}
 use native.Mathlib.Decide.{dec_lt}

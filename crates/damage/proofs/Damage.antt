@@ -26,7 +26,7 @@ use Rattle.steps.specs.Rows.{PREFIX, is_join}
 use Rattle.steps.proofs.Rows.{join_of}
 use Rattle.steps.proofs.Sources.{sets_source}
 use Rattle.sheet.specs.Table.{Table, row_at, condition_row_at, lazy_of, is_compacted, evaluation_of, eval_in, process_of}
-use Rattle.sheet.specs.Rules.{sized, settled, wants, few_links_rule, conditions, terms}
+use Rattle.sheet.specs.Rules.{sized, settled, wants, few_links_rule, terms}
 use Rattle.sheet.specs.Accepted.{WellFormed, HasOut}
 use Rattle.sheet.proofs.Rows.{PrefixOk, join_ok_law}
 use Rattle.sheet.proofs.Accepted.{Meets, links_below, all_sourced, single_source, well_formed, narrow_joins}

@@ -1,7 +1,7 @@
 -- DOCUMENT 02, REQUEST 5: which link a join waits for, over what evaluation hands back and what `standing` and `waits_for` answer. Assumes nothing.
 use Prim.Native.Nat.{ℕ, ◌<◌, ◌≤◌}
 use mathlib.Core.Path.{◌≡◌, refl, sym, ◌∙◌, ap, subst, fun_ext}
-use mathlib.Core.Bool.{true, false, true≢false}
+use mathlib.Core.Bool.{true≢false}
 use mathlib.Core.List.{List}
 use mathlib.Core.Logic.{⊎_elim, by_cases, ◌↔◌}
 use native.Mathlib.Omega.{arith}

@@ -1,8 +1,7 @@
 use mathlib.Core.Path.{sym, ◌∙◌}
-use borrow.Author.Tests.{eq-eqb, ne_eqb, not-true, not-false}
+use borrow.Author.Tests.{eq-eqb, ne_eqb}
 use Rattle.sheet.specs.Sheet.{contents_ok}
 use Rattle.codec.proofs.Reading.{count_wrong, settings_wrong, terms_wrong, conditions_wrong, contents_right}
-use borrow.Author.Rules.{rules}
 use Rattle.codec.proofs.bad_contents.Goals as goal
 
 pub returns-then-s-ne3 : goal.returns-then-s-ne3

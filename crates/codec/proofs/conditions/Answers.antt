@@ -1,6 +1,5 @@
 use mathlib.Core.Path.{◌∙◌}
 use Rattle.codec.proofs.Parts.{part_whole, part_empty, read_framed}
-use borrow.Author.Rules.{rules}
 use Rattle.codec.proofs.conditions.Goals as goal
 
 pub conditions_in-requires : goal.conditions_in-requires

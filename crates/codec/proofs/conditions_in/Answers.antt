@@ -1,6 +1,5 @@
 use Rattle.codec.proofs.Reading.{bodies, conditions_part}
 use native.Mathlib.Omega.{arith}
-use borrow.Author.Rules.{rules}
 use Rattle.codec.proofs.conditions_in.Goals as goal
 
 pub two-start-requires : goal.two-start-requires

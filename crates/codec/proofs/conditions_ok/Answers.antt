@@ -1,5 +1,4 @@
 use Rattle.codec.proofs.Reading.{conditions_by}
-use borrow.Author.Rules.{rules}
 use Rattle.codec.proofs.conditions_ok.Goals as goal
 
 pub returns : goal.returns

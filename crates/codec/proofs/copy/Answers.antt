@@ -1,9 +1,8 @@
 use mathlib.Core.Path.{◌∙◌, ap}
 use lib.ListN.{length}
 use native.Mathlib.Numerals.{add-one}
-use Prim.Native.Nat.{◌-◌, ◌≤◌}
 use mathlib.Core.Path.{◌≡◌}
-use lib.Seq.{paste, paste-zero, paste-suc, length-paste}
+use lib.Seq.{paste-zero, paste-suc, length-paste}
 use native.Mathlib.Omega.{arith}
 use Rattle.codec.proofs.copy.Goals as goal
 

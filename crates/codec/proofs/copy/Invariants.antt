@@ -1,10 +1,6 @@
-use mathlib.Core.Path.{◌∙◌, ap}
-use lib.ListN.{length}
-use native.Mathlib.Numerals.{add-one}
 use Prim.Native.Nat.{◌-◌, ◌≤◌}
 use mathlib.Core.Path.{◌≡◌}
-use lib.Seq.{paste, paste-zero, paste-suc, length-paste}
-use native.Mathlib.Omega.{arith}
+use lib.Seq.{paste}
 use Rattle.codec.proofs.copy.Given as goal
 
 abbrev pub invariant-loop-i : goal.invariant-loop-i

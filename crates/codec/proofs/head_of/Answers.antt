@@ -1,5 +1,4 @@
 use Rattle.codec.proofs.Reading.{head_by}
-use borrow.Author.Rules.{rules}
 use Rattle.codec.proofs.head_of.Goals as goal
 
 pub returns : goal.returns

@@ -1,5 +1,4 @@
 use Rattle.codec.proofs.Reading.{parts_judged}
-use borrow.Author.Rules.{rules}
 use Rattle.codec.proofs.judge_parts.Goals as goal
 
 pub returns : goal.returns

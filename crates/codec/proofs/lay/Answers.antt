@@ -1,5 +1,4 @@
 use mathlib.Core.Path.{refl}
-use borrow.Author.Rules.{rules}
 use Rattle.codec.proofs.Writing.{copied_by, lay_short}
 use Rattle.codec.proofs.lay.Goals as goal
 

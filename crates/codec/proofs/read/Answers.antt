@@ -2,7 +2,6 @@ use mathlib.Core.Path.{ap, ◌∙◌}
 use Rattle.codec.specs.Answers.{read_of}
 use Rattle.codec.specs.declared.SheetAnswer.TheVariants as sheet
 use Rattle.codec.proofs.Reading.{too_short, too_long, contents_refused, framed, parts_refused, parts_accepted}
-use borrow.Author.Rules.{rules}
 use Rattle.codec.proofs.read.Goals as goal
 
 pub returns-then-size-lt22 : goal.returns-then-size-lt22

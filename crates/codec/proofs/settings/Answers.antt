@@ -1,7 +1,6 @@
 use Rattle.sheet.specs.Sheet.{settings_of}
 use Rattle.codec.proofs.Parts.{part_whole, part_empty, read_framed}
 use native.Mathlib.Omega.{arith}
-use borrow.Author.Rules.{rules}
 use Rattle.codec.proofs.settings.Goals as goal
 
 pub slice_bounds-result-end : goal.slice_bounds-result-end

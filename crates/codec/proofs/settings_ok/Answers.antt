@@ -1,5 +1,4 @@
 use Rattle.codec.proofs.Reading.{settings_by}
-use borrow.Author.Rules.{rules}
 use Rattle.codec.proofs.settings_ok.Goals as goal
 
 pub returns : goal.returns

@@ -1,6 +1,5 @@
 use mathlib.Core.Path.{◌∙◌}
 use Rattle.codec.proofs.Parts.{part_whole, part_empty, read_framed}
-use borrow.Author.Rules.{rules}
 use Rattle.codec.proofs.terms.Goals as goal
 
 pub terms_in-requires : goal.terms_in-requires

@@ -1,6 +1,5 @@
 use Rattle.codec.proofs.Reading.{bodies, terms_part}
 use native.Mathlib.Omega.{arith}
-use borrow.Author.Rules.{rules}
 use Rattle.codec.proofs.terms_in.Goals as goal
 
 pub two-end-requires : goal.two-end-requires

@@ -1,7 +1,6 @@
 use Rattle.codec.proofs.Reading.{number_by}
 use Prim.Native.Nat.{◌+◌}
 use native.Mathlib.Omega.{arith}
-use borrow.Author.Rules.{rules}
 use Rattle.codec.proofs.two.Goals as goal
 
 pub overflow_mul-result : goal.overflow_mul-result

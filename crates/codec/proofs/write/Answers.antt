@@ -1,5 +1,4 @@
 use native.Mathlib.Omega.{arith}
-use borrow.Author.Rules.{rules}
 use Rattle.sheet.proofs.Accepted.{accepted_form}
 use Rattle.codec.proofs.Writing.{wrote_refused, wrote_short, wrote_whole}
 use Rattle.codec.proofs.write.Goals as goal

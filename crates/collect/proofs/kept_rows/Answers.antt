@@ -1,5 +1,4 @@
 use Rattle.collect.proofs.Compacting.{terms_are}
-use borrow.Author.Rules.{rules}
 use Rattle.collect.proofs.kept_rows.Goals as goal
 
 pub returns : goal.returns

@@ -5,7 +5,6 @@ use Rattle.sheet.proofs.Rows.{row_other}
 use Rattle.layout.specs.Bytes.{row_bytes}
 use Rattle.front.proofs.ByKind.{row_act, row_out, row_join, row_pick, row_flow}
 use Rattle.collect.proofs.NewRows.{new_step, new_branch, new_nil}
-use borrow.Author.Rules.{rules}
 use Rattle.collect.proofs.new_row.Goals as goal
 
 pub returns-in-1 : goal.returns-in-1

@@ -1,11 +1,7 @@
-use Prim.Native.Nat.{◌-◌, ◌≤◌}
 use mathlib.Core.Path.{sym, ◌∙◌}
 use native.Mathlib.Omega.{arith}
-use lib.ListN.{get_or}
-use Rattle.sheet.specs.Table.{row_at}
-use Rattle.collect.specs.Kept.{kept_by, new_bytes}
 use Rattle.collect.proofs.NewRows.{new_four}
-use Rattle.collect.proofs.Laid.{Laid, laid_none, laid_miss, laid_put, laid_all}
+use Rattle.collect.proofs.Laid.{laid_none, laid_miss, laid_put, laid_all}
 use Rattle.collect.proofs.new_rows.Goals as goal
 
 pub loop-i-init : goal.loop-i-init

@@ -1,6 +1,5 @@
 use native.Mathlib.Omega.{arith}
 use Rattle.collect.proofs.Laid.{paste_four}
-use borrow.Author.Rules.{rules}
 use Rattle.collect.proofs.put.Goals as goal
 
 pub returns : goal.returns

@@ -1,12 +1,8 @@
-use Prim.Native.Nat.{◌-◌, ◌≤◌}
 use mathlib.Core.Path.{◌≡◌, refl, sym}
 use native.Mathlib.Omega.{arith}
-use Rattle.laws.specs.Sums.{count}
 use Rattle.laws.proofs.Tests.{bit_small}
 use Rattle.laws.proofs.Sums.{count_zero, count_more}
-use Rattle.collect.specs.Kept.{Tells, kept_by}
 use Rattle.collect.proofs.Told.{tells_none, tells_up}
-use borrow.Author.Rules.{rules}
 use Rattle.collect.proofs.ranks.Goals as goal
 
 pub loop-i-init : goal.loop-i-init

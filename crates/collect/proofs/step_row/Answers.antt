@@ -1,5 +1,4 @@
 use mathlib.Core.Path.{refl, sym, ◌∙◌}
-use borrow.Author.Rules.{rules}
 use Rattle.collect.proofs.step_row.Goals as goal
 
 pub returns-then-waits : goal.returns-then-waits

@@ -2,7 +2,6 @@ use borrow.Author.Tests.{ne_eqb}
 use Rattle.sheet.specs.Table.{row_at}
 use Rattle.front.proofs.ByKind.{row_act, row_out, row_join, row_pick}
 use Rattle.collect.proofs.Topped.{top_prefix, top_pick, top_other}
-use borrow.Author.Rules.{rules}
 use Rattle.collect.proofs.top_of.Goals as goal
 
 pub returns-in-1 : goal.returns-in-1

@@ -1,7 +1,6 @@
 use mathlib.Core.Path.{refl}
 use borrow.Author.Tests.{ne_eqb}
 use Rattle.steps.specs.Marks.{open_branches}
-use borrow.Author.Rules.{rules}
 use Rattle.collect.proofs.top_pick.Goals as goal
 
 pub returns-in-2 : goal.returns-in-2

@@ -1,6 +1,5 @@
 use borrow.Author.Tests.{eq-eqb, ne_eqb}
 use Rattle.front.proofs.ByKind.{passed_mark}
-use borrow.Author.Rules.{rules}
 use Rattle.collect.proofs.top_step.Goals as goal
 
 pub returns-then-mark-eq1 : goal.returns-then-mark-eq1

@@ -1,10 +1,6 @@
-use Prim.Native.Nat.{◌+◌, ◌-◌, ◌≤◌}
+use Prim.Native.Nat.{◌+◌, ◌-◌}
 use mathlib.Core.Path.{◌≡◌, refl, ◌∙◌}
 use native.Mathlib.Omega.{arith}
-use lib.ListN.{get_or}
-use Rattle.layout.specs.Rows.{root}
-use Rattle.moves.specs.Steps.{remainder_in}
-use Rattle.collect.specs.Kept.{Tells}
 use Rattle.collect.proofs.Told.{tells_none, tells_down}
 use Rattle.collect.proofs.Topped.{top_told}
 use Rattle.collect.proofs.tops.Goals as goal

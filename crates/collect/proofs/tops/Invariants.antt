@@ -1,12 +1,8 @@
-use Prim.Native.Nat.{◌+◌, ◌-◌, ◌≤◌}
-use mathlib.Core.Path.{◌≡◌, refl, ◌∙◌}
-use native.Mathlib.Omega.{arith}
+use Prim.Native.Nat.{◌≤◌}
 use lib.ListN.{get_or}
 use Rattle.layout.specs.Rows.{root}
 use Rattle.moves.specs.Steps.{remainder_in}
 use Rattle.collect.specs.Kept.{Tells}
-use Rattle.collect.proofs.Told.{tells_none, tells_down}
-use Rattle.collect.proofs.Topped.{top_told}
 use Rattle.collect.proofs.tops.Given as goal
 
 abbrev pub invariant-loop-i : goal.invariant-loop-i

@@ -1,6 +1,5 @@
 use mathlib.Core.Path.{sym}
 use mathlib.Core.List.{[]}
-use borrow.Author.Rules.{rules}
 use Rattle.sheet.specs.Table.{table_of}
 use Rattle.collect.proofs.Writing.{in_range, wrote}
 use Rattle.collect.proofs.write.Goals as goal

@@ -1,6 +1,5 @@
 use mathlib.Core.Path.{refl}
 use Rattle.sheet.proofs.Rows.{row_act}
-use borrow.Author.Rules.{rules}
 use Rattle.counts.proofs.act.Goals as goal
 
 pub returns : goal.returns

@@ -1,16 +1,11 @@
-use Prim.Native.Nat.{◌+◌, ◌-◌, ◌≤◌}
-use mathlib.Core.Path.{◌≡◌, sym, ◌∙◌}
+use Prim.Native.Nat.{◌-◌, ◌≤◌}
+use mathlib.Core.Path.{◌≡◌}
 use mathlib.Core.Bool.{◌&&◌}
-use native.Mathlib.Omega.{arith}
 use lib.ListN.{get_or}
-use Rattle.laws.specs.Tests.{bit}
 use Rattle.laws.specs.Sums.{count}
-use Rattle.laws.proofs.Sums.{count_zero, count_more}
 use Rattle.steps.specs.InFront.{waiting_act}
 use Rattle.sheet.specs.Table.{row_at}
 use Rattle.flags.specs.Flags.{flagged}
-use Rattle.counts.proofs.Rows.{acts_fit, acts_read}
-use borrow.Author.Rules.{rules}
 use Rattle.counts.proofs.acts.Given as goal
 
 abbrev pub invariant-loop-row : goal.invariant-loop-row

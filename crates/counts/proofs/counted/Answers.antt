@@ -1,4 +1,3 @@
-use borrow.Author.Rules.{rules}
 use Rattle.counts.proofs.counted.Goals as goal
 
 pub returns : goal.returns

@@ -1,17 +1,13 @@
-use Prim.Native.Nat.{◌≤◌, ◌-◌}
+use Prim.Native.Nat.{◌≤◌}
 use mathlib.Core.Path.{◌≡◌, sym, ◌∙◌, ap}
 use mathlib.Core.Bool.{not}
 use native.Mathlib.Omega.{arith}
-use lib.ListN.{get_or}
-use Rattle.laws.specs.Sums.{count}
 use Rattle.laws.proofs.Tests.{bit_small}
 use Rattle.laws.proofs.Sums.{count_zero, count_upto, count_more, count_same}
 use Rattle.calculus.specs.Status.{Value}
 use Rattle.conditions.specs.Conditions.{is_set}
-use Rattle.conditions.specs.Numbers.{undigit}
 use Rattle.moves.specs.Steps.{unset_of}
 use Rattle.moves.proofs.Falsify.{links_in_law}
-use borrow.Author.Rules.{rules}
 use Rattle.counts.proofs.unset.Goals as goal
 
 pub loop-link-init : goal.loop-link-init

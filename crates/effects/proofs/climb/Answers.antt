@@ -1,7 +1,7 @@
 use mathlib.Core.Path.{sym, ◌∙◌}
 use Prim.Native.Nat.{◌≤◌, ◌<◌}
 use native.Mathlib.Omega.{arith}
-use Rattle.effects.proofs.Climbing.{Climbs, climb_start, climb_hit, climb_miss, climb_end, names_parent}
+use Rattle.effects.proofs.Climbing.{climb_start, climb_hit, climb_miss, climb_end, names_parent}
 use Rattle.effects.proofs.climb.Goals as goal
 
 pub loop-p-init : goal.loop-p-init

@@ -1,7 +1,4 @@
-use mathlib.Core.Path.{sym, ◌∙◌}
-use Prim.Native.Nat.{◌≤◌, ◌<◌}
-use native.Mathlib.Omega.{arith}
-use Rattle.effects.proofs.Climbing.{Climbs, climb_start, climb_hit, climb_miss, climb_end, names_parent}
+use Rattle.effects.proofs.Climbing.{Climbs}
 use Rattle.effects.proofs.climb.Given as goal
 
 abbrev pub invariant-loop-p : goal.invariant-loop-p

@@ -1,10 +1,8 @@
 use borrow.Author.Tests.{eq-eqb, ne_eqb}
 use mathlib.Core.Path.{sym, ◌∙◌}
-use borrow.Author.Tests.{not-true, not-false}
 use native.Mathlib.Omega.{arith}
 use Prim.Native.Nat.{◌<◌}
 use Rattle.effects.proofs.Climbing.{decided_no, decided_plain, decided_right, decided_left, pick_branches}
-use borrow.Author.Rules.{rules}
 use Rattle.effects.proofs.decide_above.Goals as goal
 
 pub returns-then-not-waiting_pick : goal.returns-then-not-waiting_pick

@@ -1,5 +1,4 @@
 use Rattle.moves.specs.Steps.{dropped_of}
-use borrow.Author.Rules.{rules}
 use Rattle.effects.proofs.dropped.Goals as goal
 
 pub falsify_below-cleaned-requires : goal.falsify_below-cleaned-requires

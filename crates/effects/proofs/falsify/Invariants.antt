@@ -1,9 +1,7 @@
-use mathlib.Core.Path.{◌≡◌, refl, sym, ap, ◌∙◌}
-use Prim.Native.Nat.{◌≤◌, ◌-◌, ◌+◌}
-use native.Mathlib.Omega.{arith}
+use mathlib.Core.Path.{◌≡◌}
+use Prim.Native.Nat.{◌≤◌, ◌-◌}
 use Rattle.reach.specs.Masks.{has_bit}
 use Rattle.moves.specs.Steps.{falsify_from}
-use Rattle.effects.proofs.Climbing.{falsify_hit, falsify_miss, falsify_end}
 use Rattle.effects.proofs.falsify.Given as goal
 
 abbrev pub invariant-loop-l : goal.invariant-loop-l

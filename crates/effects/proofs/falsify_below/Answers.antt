@@ -1,6 +1,5 @@
 use mathlib.Core.Path.{◌∙◌}
 use Rattle.effects.proofs.Climbing.{falsified_by}
-use borrow.Author.Rules.{rules}
 use Rattle.effects.proofs.falsify_below.Goals as goal
 
 pub returns : goal.returns

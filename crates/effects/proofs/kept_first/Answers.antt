@@ -1,6 +1,5 @@
 use Rattle.effects.specs.Gather.{kept_first}
 use mathlib.Core.Path.{sym, ◌∙◌}
-use borrow.Author.Rules.{rules}
 use Rattle.effects.proofs.kept_first.Goals as goal
 
 pub returns-then-keeps : goal.returns-then-keeps

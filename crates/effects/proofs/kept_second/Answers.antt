@@ -1,5 +1,4 @@
 use Rattle.effects.specs.Gather.{kept_second}
-use borrow.Author.Rules.{rules}
 use Rattle.effects.proofs.kept_second.Goals as goal
 
 pub returns-then-keeps-child : goal.returns-then-keeps-child

@@ -1,9 +1,7 @@
-use borrow.Author.Tests.{not-true, not-false}
 use borrow.Author.Tests.{ne_eqb}
 use mathlib.Core.Path.{sym, ◌∙◌}
 use Rattle.sheet.specs.Table.{row_at}
 use Rattle.effects.proofs.Climbing.{gathers_waits, gathers_other, gathers_out}
-use borrow.Author.Rules.{rules}
 use Rattle.effects.proofs.own_bit.Goals as goal
 
 pub returns-then-not-waiting_step : goal.returns-then-not-waiting_step

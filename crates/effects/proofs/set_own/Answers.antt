@@ -2,7 +2,6 @@ use borrow.Author.Tests.{ne_eqb}
 use mathlib.Core.Path.{sym, ◌∙◌}
 use Rattle.sheet.specs.Table.{row_at}
 use Rattle.effects.proofs.Climbing.{own_other, own_true, own_false, own_below}
-use borrow.Author.Rules.{rules}
 use Rattle.effects.proofs.set_own.Goals as goal
 
 pub returns-then-ts-row-ne2 : goal.returns-then-ts-row-ne2

@@ -1,6 +1,5 @@
 use mathlib.Core.Path.{◌∙◌, ap}
 use Rattle.moves.specs.Steps.{climbed, own_of, taken_of, counted_in}
-use borrow.Author.Rules.{rules}
 use Rattle.effects.proofs.taken.Goals as goal
 
 pub returns : goal.returns

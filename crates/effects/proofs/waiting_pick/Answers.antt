@@ -2,7 +2,6 @@ use mathlib.Core.Path.{sym, ◌∙◌}
 use borrow.Author.Tests.{ne_eqb}
 use Rattle.sheet.specs.Table.{row_at}
 use Rattle.effects.proofs.Climbing.{waiting_pick_other, waiting_pick}
-use borrow.Author.Rules.{rules}
 use Rattle.effects.proofs.waiting_pick.Goals as goal
 
 pub returns-then-ts-row-ne4 : goal.returns-then-ts-row-ne4

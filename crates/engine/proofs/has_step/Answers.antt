@@ -1,7 +1,6 @@
 use Rattle.engine.specs.ByValue.{step_from}
 use mathlib.Core.Path.{◌∙◌, ap}
 use Rattle.engine.specs.ByValue.{is_step}
-use borrow.Author.Rules.{rules}
 use Rattle.engine.proofs.has_step.Goals as goal
 
 pub returns : goal.returns

@@ -1,5 +1,4 @@
 use borrow.Author.Tests.{ne_eqb}
-use borrow.Author.Rules.{rules}
 use Rattle.engine.proofs.Rows.{join_other, join_there}
 use Rattle.engine.proofs.join_in_front.Goals as goal
 

@@ -3,7 +3,6 @@ use mathlib.Core.Bool.{true, false, ◌&&◌}
 use lib.Dec.{eqb}
 use borrow.Author.Tests.{ne_eqb}
 use Rattle.engine.specs.ByValue.{join_kind}
-use borrow.Author.Rules.{rules}
 use Rattle.engine.proofs.join_kind.Goals as goal
 
 pub returns-then-value-eq2 : goal.returns-then-value-eq2

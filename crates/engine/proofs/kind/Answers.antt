@@ -1,6 +1,5 @@
 use mathlib.Core.Path.{◌∙◌}
 use Rattle.engine.proofs.Known.{kind_known}
-use borrow.Author.Rules.{rules}
 use Rattle.engine.proofs.kind.Goals as goal
 
 pub returns : goal.returns

@@ -1,8 +1,7 @@
 use mathlib.Core.Path.{sym, ◌∙◌}
-use borrow.Author.Tests.{eq-eqb, ne_eqb, not-true, not-false}
+use borrow.Author.Tests.{eq-eqb, ne_eqb}
 use native.Mathlib.Omega.{arith}
 use Rattle.engine.proofs.Known.{from_none, from_unseen, from_passed, from_front}
-use borrow.Author.Rules.{rules}
 use Rattle.engine.proofs.kind_from.Goals as goal
 
 pub returns-then-n-row : goal.returns-then-n-row

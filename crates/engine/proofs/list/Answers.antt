@@ -4,7 +4,6 @@ use Rattle.laws.specs.Listed.{written}
 use Rattle.flags.proofs.Shown.{shown_listed}
 use Rattle.engine.specs.ByValue.{steps_from}
 use Rattle.engine.proofs.Rows.{steps_from_law}
-use borrow.Author.Rules.{rules}
 use Rattle.engine.proofs.list.Goals as goal
 
 pub returns : goal.returns

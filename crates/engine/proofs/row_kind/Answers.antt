@@ -2,7 +2,6 @@ use mathlib.Core.Path.{refl, ◌∙◌}
 use borrow.Author.Tests.{ne_eqb}
 use Rattle.sheet.specs.Table.{row_at}
 use Rattle.engine.proofs.Known.{kind_1, kind_2, kind_3, kind_other}
-use borrow.Author.Rules.{rules}
 use Rattle.engine.proofs.row_kind.Goals as goal
 
 pub returns-in-1 : goal.returns-in-1

@@ -1,10 +1,5 @@
 use Prim.Native.Nat.{◌≤◌, ◌-◌}
-use mathlib.Core.Path.{◌≡◌, ap}
-use native.Mathlib.Omega.{arith}
-use borrow.Author.Rules.{rules}
-use Rattle.laws.specs.Tests.{bit}
 use Rattle.flags.specs.Flags.{Shows}
-use Rattle.flags.proofs.Shown.{shows_none, shows_more}
 use Rattle.engine.specs.ByValue.{step_from}
 use Rattle.engine.proofs.show_steps.Given as goal
 

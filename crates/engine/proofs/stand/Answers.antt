@@ -4,7 +4,6 @@ use Rattle.laws.specs.Listed.{written}
 use Rattle.sheet.specs.Table.{table_of}
 use Rattle.engine.proofs.Known.{Knows}
 use Rattle.engine.proofs.Rows.{steps_from_law, waiting_from_law}
-use borrow.Author.Rules.{rules}
 use Rattle.engine.proofs.stand.Goals as goal
 
 pub returns : goal.returns

@@ -4,7 +4,6 @@ use Rattle.laws.specs.Listed.{written}
 use Rattle.flags.proofs.Shown.{shown_listed}
 use Rattle.engine.specs.ByValue.{steps_from, waiting_from}
 use Rattle.engine.proofs.Rows.{nothing_waits, waits_joins}
-use borrow.Author.Rules.{rules}
 use Rattle.engine.proofs.stand_by.Goals as goal
 
 pub returns-then-steps-ne0 : goal.returns-then-steps-ne0

@@ -1,7 +1,6 @@
 use mathlib.Core.Path.{refl, sym, ◌∙◌}
 use Rattle.sheet.proofs.Accepted.{rows_lent}
 use Rattle.engine.proofs.Known.{taken_needs, clean_needs, answer_taken, answer_clean, answer_refused}
-use borrow.Author.Rules.{rules}
 use Rattle.engine.proofs.take.Goals as goal
 
 pub taken-requires : goal.taken-requires

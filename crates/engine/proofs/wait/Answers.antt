@@ -1,13 +1,8 @@
-use Prim.Native.Nat.{ℕ}
 use mathlib.Core.Path.{◌≡◌}
-use mathlib.Core.List.{List}
 use native.Mathlib.Omega.{arith}
-use Rattle.sheet.specs.Table.{Table, table_of}
-use Rattle.sheet.specs.Accepted.{WellFormed}
-use Rattle.state.specs.declared.State.{State}
+use Rattle.sheet.specs.Table.{table_of}
 use Rattle.engine.proofs.Known.{Knows}
 use Rattle.engine.proofs.Waits.{waits_counted, wait_short, rows_room, rows_counted, rows_lent, wait_told}
-use borrow.Author.Rules.{rules}
 use Rattle.engine.proofs.wait.Goals as goal
 
 pub returns-then-out-size : goal.returns-then-out-size

@@ -1,6 +1,5 @@
 use Rattle.evaluate.proofs.Tables.{table_at}
 use native.Mathlib.Omega.{arith}
-use borrow.Author.Rules.{rules}
 use Rattle.evaluate.proofs.by_table.Goals as goal
 
 pub returns : goal.returns

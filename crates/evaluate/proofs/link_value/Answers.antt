@@ -1,7 +1,6 @@
 use borrow.Author.Tests.{lt-ltb, le-ltb}
 use Rattle.conditions.specs.Numbers.{digit}
 use Rattle.evaluate.specs.Values.{links_in}
-use borrow.Author.Rules.{rules}
 use Rattle.evaluate.proofs.link_value.Goals as goal
 
 pub returns-then-l-ge64 : goal.returns-then-l-ge64

@@ -1,7 +1,6 @@
 use mathlib.Core.Path.{◌∙◌, sym}
 use Rattle.conditions.specs.ByRows.{operate}
 use Rattle.sheet.specs.Table.{evaluation_of}
-use borrow.Author.Rules.{rules}
 use Rattle.evaluate.proofs.operate.Goals as goal
 
 pub returns-then-is_lazy : goal.returns-then-is_lazy

@@ -3,7 +3,6 @@ use native.Mathlib.Omega.{arith}
 use lib.Bits.{xor_lt}
 use lib.ListN.{length-set}
 use Rattle.evaluate.proofs.Packed.{turned_other, turned_same, one_turned}
-use borrow.Author.Rules.{rules}
 use Rattle.evaluate.proofs.put.Goals as goal
 
 pub returns : goal.returns

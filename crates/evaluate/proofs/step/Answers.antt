@@ -4,7 +4,6 @@ use native.Mathlib.Omega.{arith}
 use Rattle.conditions.specs.Numbers.{digit}
 use Rattle.sheet.specs.Table.{condition_row_at}
 use Rattle.evaluate.proofs.Rows.{found}
-use borrow.Author.Rules.{rules}
 use Rattle.evaluate.proofs.step.Goals as goal
 
 pub returns : goal.returns

@@ -1,7 +1,6 @@
 use mathlib.Core.Path.{◌∙◌, ap}
 use Rattle.conditions.specs.Numbers.{digit}
 use Rattle.evaluate.proofs.Tables.{unset_left, unset_right, both_set}
-use borrow.Author.Rules.{rules}
 use Rattle.evaluate.proofs.strictly.Goals as goal
 
 pub returns-then-l-eq0 : goal.returns-then-l-eq0

@@ -2,7 +2,6 @@ use borrow.Author.Tests.{lt-ltb, le-ltb, ne_eqb}
 use Rattle.conditions.specs.Numbers.{digit}
 use Rattle.conditions.specs.ByRows.{value_by}
 use Rattle.sheet.specs.Table.{condition_row_by}
-use borrow.Author.Rules.{rules}
 use Rattle.evaluate.proofs.value_by.Goals as goal
 
 pub returns-in-0 : goal.returns-in-0

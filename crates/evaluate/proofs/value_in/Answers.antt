@@ -1,6 +1,5 @@
 use Rattle.evaluate.specs.Values.{value_in}
 use mathlib.Core.Path.{refl}
-use borrow.Author.Rules.{rules}
 use Rattle.evaluate.proofs.value_in.Goals as goal
 
 pub returns : goal.returns

@@ -1,8 +1,7 @@
 use mathlib.Core.Path.{◌≡◌, ◌∙◌}
 use Rattle.conditions.proofs.Numbers.{digit_small}
-use Prim.Native.Nat.{◌≤◌, ◌-◌}
 use Rattle.sheet.specs.Table.{eval_of}
-use Rattle.evaluate.specs.Values.{links_in, Evaluated}
+use Rattle.evaluate.specs.Values.{links_in}
 use Rattle.evaluate.proofs.Rows.{evaluated_none, evaluated_long, evaluated_next, evaluated_more}
 use native.Mathlib.Omega.{arith}
 use Rattle.evaluate.proofs.values.Goals as goal

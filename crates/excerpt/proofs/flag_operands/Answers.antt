@@ -1,4 +1,3 @@
-use borrow.Author.Rules.{rules}
 use Rattle.excerpt.specs.Excerpt.{with_operands}
 use Rattle.excerpt.proofs.ByKind.{operands_low, operands_high, operands_op}
 use Rattle.excerpt.proofs.flag_operands.Goals as goal

@@ -1,5 +1,4 @@
 use native.Mathlib.Omega.{arith}
-use borrow.Author.Rules.{rules}
 use Rattle.excerpt.proofs.Excerpted.{rows_are}
 use Rattle.excerpt.proofs.lay.Goals as goal
 

@@ -1,6 +1,5 @@
 use mathlib.Core.Path.{refl}
 use native.Mathlib.Omega.{arith}
-use borrow.Author.Rules.{rules}
 use Rattle.sheet.specs.Table.{condition_row_by, condition_row_at}
 use Rattle.layout.specs.Bytes.{condition_bytes}
 use Rattle.damage.specs.Reached.{renumbered_condition}

@@ -1,11 +1,8 @@
 use Prim.Native.Nat.{◌-◌, ◌≤◌}
-use native.Mathlib.Omega.{arith}
-use borrow.Author.Tests.{eq-eqb, ne_eqb}
 use Rattle.sheet.specs.Table.{condition_row_at}
 use Rattle.flags.specs.Flags.{flagged}
-use Rattle.laying.proofs.Laid.{Laid, laid_none, laid_miss, laid_put, laid_all}
+use Rattle.laying.proofs.Laid.{Laid}
 use Rattle.excerpt.specs.Excerpt.{new_bytes}
-use Rattle.excerpt.proofs.ByKind.{new_four}
 use Rattle.excerpt.proofs.new_rows.Given as goal
 
 abbrev pub invariant-loop-i : goal.invariant-loop-i

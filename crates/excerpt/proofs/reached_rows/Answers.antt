@@ -1,8 +1,8 @@
-use Prim.Native.Nat.{◌+◌, ◌-◌, ◌≤◌}
+use Prim.Native.Nat.{◌+◌, ◌-◌}
 use mathlib.Core.Path.{◌≡◌}
 use native.Mathlib.Omega.{arith}
 use Rattle.sheet.specs.Table.{condition_row_at}
-use Rattle.excerpt.proofs.Flagging.{Flagging, flagging_none, flagging_hit, flagging_miss, flagging_all}
+use Rattle.excerpt.proofs.Flagging.{flagging_none, flagging_hit, flagging_miss, flagging_all}
 use Rattle.excerpt.proofs.reached_rows.Goals as goal
 
 pub loop-i-init : goal.loop-i-init

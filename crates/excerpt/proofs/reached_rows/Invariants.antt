@@ -1,8 +1,5 @@
-use Prim.Native.Nat.{◌+◌, ◌-◌, ◌≤◌}
-use mathlib.Core.Path.{◌≡◌}
-use native.Mathlib.Omega.{arith}
-use Rattle.sheet.specs.Table.{condition_row_at}
-use Rattle.excerpt.proofs.Flagging.{Flagging, flagging_none, flagging_hit, flagging_miss, flagging_all}
+use Prim.Native.Nat.{◌+◌, ◌≤◌}
+use Rattle.excerpt.proofs.Flagging.{Flagging}
 use Rattle.excerpt.proofs.reached_rows.Given as goal
 
 abbrev pub invariant-loop-i : goal.invariant-loop-i

@@ -1,8 +1,6 @@
 use Prim.Native.Nat.{◌-◌}
-use mathlib.Core.Path.{◌∙◌, sym}
-use native.Mathlib.Omega.{arith}
 use Rattle.reach.specs.Masks.{has_bit}
-use Rattle.failure.proofs.Rest.{Rest, rest_none, rest_here, rest_hit, rest_miss, rest_end}
+use Rattle.failure.proofs.Rest.{Rest}
 use Rattle.failure.proofs.false_link.Given as goal
 
 abbrev pub invariant-loop-l : goal.invariant-loop-l

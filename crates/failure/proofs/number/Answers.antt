@@ -1,12 +1,9 @@
-use mathlib.Core.Path.{◌≡◌, ap, ◌∙◌}
-use Prim.Native.Nat.{ℕ, ◌-◌, ◌^◌, ◌%◌, ◌≤◌}
-use lib.ListN.{length}
+use mathlib.Core.Path.{ap, ◌∙◌}
+use Prim.Native.Nat.{ℕ, ◌^◌}
 use lib.Count.{trailing_le}
 use native.Mathlib.Omega.{arith}
-use Rattle.failure.specs.Blocks.{steady_number}
-use Rattle.failure.specs.Failure.{links_at}
 use Rattle.failure.proofs.Search.{narrow_width, narrow_power}
-use Rattle.failure.proofs.Blocks.{Below, below_none, below_more}
+use Rattle.failure.proofs.Blocks.{below_none, below_more}
 use Rattle.failure.proofs.Found.{number_past, number_here, number_end}
 use Rattle.failure.proofs.number.Goals as goal
 

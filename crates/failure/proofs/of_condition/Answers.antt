@@ -1,6 +1,5 @@
 use mathlib.Core.Path.{sym, ◌∙◌}
 use Rattle.failure.proofs.Search.{failure_none, failure_at}
-use borrow.Author.Rules.{rules}
 use Rattle.failure.proofs.of_condition.Goals as goal
 
 pub returns-then-passes : goal.returns-then-passes

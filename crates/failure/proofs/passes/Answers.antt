@@ -1,11 +1,8 @@
-use mathlib.Core.Path.{◌≡◌, ap, ◌∙◌}
-use Prim.Native.Nat.{ℕ, ◌-◌, ◌^◌, ◌%◌, ◌≤◌}
-use lib.ListN.{length}
+use mathlib.Core.Path.{ap, ◌∙◌}
+use Prim.Native.Nat.{ℕ, ◌^◌}
 use native.Mathlib.Omega.{arith}
-use Rattle.failure.specs.Blocks.{steady_total}
-use Rattle.failure.specs.Failure.{links_at}
 use Rattle.failure.proofs.Search.{narrow_width, narrow_power}
-use Rattle.failure.proofs.Blocks.{Below, below_none, below_more}
+use Rattle.failure.proofs.Blocks.{below_none, below_more}
 use Rattle.failure.proofs.Found.{totals_fail, totals_pass}
 use Rattle.failure.proofs.passes.Goals as goal
 

@@ -1,12 +1,9 @@
-use mathlib.Core.Path.{◌≡◌, ap, ◌∙◌}
-use Prim.Native.Nat.{ℕ, ◌-◌, ◌^◌, ◌%◌, ◌≤◌}
+use mathlib.Core.Path.{◌≡◌}
+use Prim.Native.Nat.{◌-◌, ◌^◌, ◌%◌, ◌≤◌}
 use lib.ListN.{length}
-use native.Mathlib.Omega.{arith}
 use Rattle.failure.specs.Blocks.{steady_total}
 use Rattle.failure.specs.Failure.{links_at}
-use Rattle.failure.proofs.Search.{narrow_width, narrow_power}
-use Rattle.failure.proofs.Blocks.{Below, below_none, below_more}
-use Rattle.failure.proofs.Found.{totals_fail, totals_pass}
+use Rattle.failure.proofs.Blocks.{Below}
 use Rattle.failure.proofs.passes.Given as goal
 
 abbrev pub invariant-loop-x : goal.invariant-loop-x

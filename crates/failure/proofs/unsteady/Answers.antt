@@ -1,6 +1,5 @@
 use native.Mathlib.Omega.{arith}
 use Rattle.failure.proofs.Lanes.{unsteady_is}
-use borrow.Author.Rules.{rules}
 use Rattle.failure.proofs.unsteady.Goals as goal
 
 pub returns : goal.returns

@@ -2,7 +2,6 @@ use native.Mathlib.Omega.{arith}
 use Rattle.words.specs.Words.{base_of}
 use Rattle.failure.proofs.Search.{narrow_few}
 use Rattle.failure.proofs.Lanes.{failing_totals}
-use borrow.Author.Rules.{rules}
 use Rattle.failure.proofs.unsteady_totals.Goals as goal
 
 pub words-trues-requires : goal.words-trues-requires

@@ -1,10 +1,6 @@
-use mathlib.Core.Path.{◌∙◌}
-use borrow.Author.Tests.{not-true, not-false}
-use Rattle.fitting.proofs.Places.{link_read}
 use Prim.Native.Nat.{◌-◌}
-use Rattle.laws.proofs.Checks.{Scanned, scanned_none, scanned_more, scanned_stop, scanned_end}
+use Rattle.laws.proofs.Checks.{Scanned}
 use Rattle.moves.specs.Fits.{links_fit}
-use native.Mathlib.Omega.{arith}
 use Rattle.fitting.proofs.bad_link.Given as goal
 
 abbrev pub invariant-loop-link : goal.invariant-loop-link

@@ -1,12 +1,8 @@
 use Prim.Native.Nat.{◌-◌, ◌≤◌}
-use mathlib.Core.Path.{◌≡◌, ◌∙◌}
-use native.Mathlib.Omega.{arith}
 use lib.ListN.{get_or}
-use borrow.Author.Tests.{not-true, not-false}
-use Rattle.laws.proofs.Checks.{Scanned, scanned_none, scanned_more, scanned_stop}
+use Rattle.laws.proofs.Checks.{Scanned}
 use Rattle.moves.specs.Steps.{mode_of}
 use Rattle.moves.specs.Fits.{marks_fit}
-use Rattle.fitting.proofs.Places.{mark_read, rest_read}
 use Rattle.fitting.proofs.bad_mark.Given as goal
 
 abbrev pub invariant-loop-row : goal.invariant-loop-row

@@ -1,9 +1,6 @@
-use Prim.Native.Nat.{◌-◌}
-use native.Mathlib.Omega.{arith}
 use lib.ListN.{get_or}
 use borrow.Author.Tests.{eq-eqb, ne_eqb}
-use Rattle.laws.proofs.Checks.{Scanned, scanned_none, scanned_more, scanned_stop, scanned_end}
-use Rattle.fitting.specs.Checks.{rest_fit}
+use Rattle.laws.proofs.Checks.{scanned_none, scanned_more, scanned_stop, scanned_end}
 use Rattle.fitting.proofs.Places.{rest_all}
 use Rattle.fitting.proofs.bad_rest.Goals as goal
 

@@ -1,11 +1,6 @@
 use mathlib.Core.Path.{◌∙◌}
-use borrow.Author.Tests.{not-true, not-false}
 use Rattle.fitting.proofs.Places.{wait_read}
-use Prim.Native.Nat.{◌-◌}
-use lib.ListN.{get_or}
-use Rattle.laws.proofs.Checks.{Scanned, scanned_none, scanned_more, scanned_stop, scanned_end}
-use Rattle.moves.specs.Fits.{waits_fit}
-use native.Mathlib.Omega.{arith}
+use Rattle.laws.proofs.Checks.{scanned_none, scanned_more, scanned_stop, scanned_end}
 use Rattle.fitting.proofs.bad_wait.Goals as goal
 
 pub ask-held-requires : goal.ask-held-requires

@@ -1,11 +1,7 @@
-use mathlib.Core.Path.{◌∙◌}
-use borrow.Author.Tests.{not-true, not-false}
-use Rattle.fitting.proofs.Places.{wait_read}
 use Prim.Native.Nat.{◌-◌}
 use lib.ListN.{get_or}
-use Rattle.laws.proofs.Checks.{Scanned, scanned_none, scanned_more, scanned_stop, scanned_end}
+use Rattle.laws.proofs.Checks.{Scanned}
 use Rattle.moves.specs.Fits.{waits_fit}
-use native.Mathlib.Omega.{arith}
 use Rattle.fitting.proofs.bad_wait.Given as goal
 
 abbrev pub invariant-loop-row : goal.invariant-loop-row

@@ -1,6 +1,5 @@
 use borrow.Author.Tests.{eq-eqb, ne_eqb}
 use Rattle.laws.specs.Tests.{or}
-use borrow.Author.Rules.{rules}
 use Rattle.fitting.proofs.clear_ok.Goals as goal
 
 pub returns-then-live-eq1 : goal.returns-then-live-eq1

@@ -3,7 +3,6 @@ use Rattle.laws.proofs.Tests.{or_is}
 use Rattle.sheet.specs.Table.{row_by, row_at}
 use Rattle.moves.specs.Fits.{clear_prefix, clear_row}
 use Rattle.fitting.proofs.ByKind.{clear_rest}
-use borrow.Author.Rules.{rules}
 use Rattle.fitting.proofs.clear_row.Goals as goal
 
 pub returns-in-2 : goal.returns-in-2

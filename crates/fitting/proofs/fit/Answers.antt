@@ -1,9 +1,7 @@
 use mathlib.Core.Path.{sym, ◌∙◌}
-use borrow.Author.Tests.{not-true, not-false}
 use Rattle.sheet.specs.Rules.{refuse}
 use Rattle.sheet.proofs.Refusals.{one_place_fails, one_place_holds}
 use native.Mathlib.Omega.{arith}
-use borrow.Author.Rules.{rules}
 use Rattle.fitting.proofs.fit.Goals as goal
 
 pub returns-then-not-mode_ok : goal.returns-then-not-mode_ok

@@ -1,8 +1,6 @@
-use borrow.Author.Tests.{not-true, not-false}
 use Rattle.laws.proofs.Checks.{checked_fails}
 use Rattle.sheet.specs.Rules.{refuse}
 use Rattle.fitting.proofs.Places.{counts_right, counts_wrong}
-use borrow.Author.Rules.{rules}
 use Rattle.fitting.proofs.fit_clear.Goals as goal
 
 pub returns-then-place-n : goal.returns-then-place-n

@@ -1,7 +1,6 @@
 use mathlib.Core.Path.{◌∙◌}
 use Rattle.laws.proofs.Checks.{checked_fails, checked_holds}
 use Rattle.sheet.specs.Rules.{refuse}
-use borrow.Author.Rules.{rules}
 use Rattle.fitting.proofs.fit_marks.Goals as goal
 
 pub returns-then-place-lt256 : goal.returns-then-place-lt256

@@ -1,6 +1,5 @@
 use Rattle.fitting.proofs.ByKind.{get_d_past}
 use native.Mathlib.Omega.{arith}
-use borrow.Author.Rules.{rules}
 use Rattle.fitting.proofs.link_byte.Goals as goal
 
 pub returns : goal.returns

@@ -3,7 +3,6 @@ use borrow.Author.Tests.{ne_eqb}
 use Rattle.sheet.specs.Table.{row_by, row_at}
 use Rattle.moves.specs.Fits.{suits_prefix, suits_branch, suits}
 use Rattle.fitting.proofs.ByKind.{or_bars_two, suits_rest}
-use borrow.Author.Rules.{rules}
 use Rattle.fitting.proofs.suits.Goals as goal
 
 pub returns-in-1 : goal.returns-in-1

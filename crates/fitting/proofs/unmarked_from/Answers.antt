@@ -1,6 +1,4 @@
-use Prim.Native.Nat.{◌-◌}
-use native.Mathlib.Omega.{arith}
-use Rattle.fitting.proofs.Places.{Unmarked, unmarked_none, unmarked_more, unmarked_end}
+use Rattle.fitting.proofs.Places.{unmarked_none, unmarked_more, unmarked_end}
 use Rattle.fitting.proofs.unmarked_from.Goals as goal
 
 pub loop-row-init : goal.loop-row-init

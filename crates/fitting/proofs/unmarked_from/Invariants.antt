@@ -1,6 +1,5 @@
 use Prim.Native.Nat.{◌-◌}
-use native.Mathlib.Omega.{arith}
-use Rattle.fitting.proofs.Places.{Unmarked, unmarked_none, unmarked_more, unmarked_end}
+use Rattle.fitting.proofs.Places.{Unmarked}
 use Rattle.fitting.proofs.unmarked_from.Given as goal
 
 abbrev pub invariant-loop-row : goal.invariant-loop-row

@@ -2,7 +2,6 @@ use borrow.Author.Tests.{ne_eqb}
 use Rattle.steps.specs.InFront.{waiting}
 use Rattle.sheet.specs.Table.{row_by, row_at}
 use Rattle.fitting.proofs.ByKind.{waiting_rest}
-use borrow.Author.Rules.{rules}
 use Rattle.fitting.proofs.waiting.Goals as goal
 
 pub returns-in-1 : goal.returns-in-1

@@ -1,8 +1,5 @@
 use Prim.Native.Nat.{◌≤◌, ◌-◌}
-use native.Mathlib.Omega.{arith}
-use borrow.Author.Rules.{rules}
-use Rattle.laws.proofs.Tests.{bit_small}
-use Rattle.laws.proofs.Listed.{Counted, counted_none, counted_next, counted_end}
+use Rattle.laws.proofs.Listed.{Counted}
 use Rattle.flags.specs.Flags.{flagged}
 use Rattle.flags.proofs.count.Given as goal
 

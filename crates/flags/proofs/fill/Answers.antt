@@ -1,6 +1,5 @@
 use native.Mathlib.Omega.{arith}
 use Rattle.laws.proofs.Listed.{written_fits, written_short}
-use borrow.Author.Rules.{rules}
 use Rattle.flags.proofs.fill.Goals as goal
 
 pub returns-then-out-size : goal.returns-then-out-size

@@ -1,8 +1,6 @@
-use Prim.Native.Nat.{◌≤◌, ◌-◌}
 use native.Mathlib.Omega.{arith}
 use borrow.Author.Tests.{eq-eqb, ne_eqb}
-use Rattle.laws.proofs.Listed.{Written, written_none, written_hit, written_miss, written_room, written_end}
-use Rattle.flags.specs.Flags.{flagged}
+use Rattle.laws.proofs.Listed.{written_none, written_hit, written_miss, written_room, written_end}
 use Rattle.flags.proofs.write.Goals as goal
 
 pub loop-i-init : goal.loop-i-init

@@ -1,7 +1,5 @@
 use Prim.Native.Nat.{◌≤◌, ◌-◌}
-use native.Mathlib.Omega.{arith}
-use borrow.Author.Tests.{eq-eqb, ne_eqb}
-use Rattle.laws.proofs.Listed.{Written, written_none, written_hit, written_miss, written_room, written_end}
+use Rattle.laws.proofs.Listed.{Written}
 use Rattle.flags.specs.Flags.{flagged}
 use Rattle.flags.proofs.write.Given as goal
 

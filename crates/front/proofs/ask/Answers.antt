@@ -1,10 +1,5 @@
-use Prim.Native.Nat.{◌≤◌, ◌-◌}
 use mathlib.Core.Path.{◌≡◌}
 use native.Mathlib.Omega.{arith}
-use lib.ListN.{get_or}
-use Rattle.steps.specs.Push.{Pushed}
-use Rattle.sheet.specs.Table.{row_at}
-use Rattle.front.specs.Asked.{asked_at}
 use Rattle.front.proofs.Asking.{asked_none, asked_more, asked_all}
 use Rattle.front.proofs.ask.Goals as goal
 

@@ -3,7 +3,6 @@ use borrow.Author.Tests.{ne_eqb}
 use Rattle.sheet.specs.Table.{row_at}
 use Rattle.sheet.proofs.Rows.{row_other}
 use Rattle.front.proofs.ByKind.{row_act, row_out, row_join, row_pick, row_flow, hand_step, hand_pick, hand_flow, hand_none}
-use borrow.Author.Rules.{rules}
 use Rattle.front.proofs.hand.Goals as goal
 
 pub returns-in-1 : goal.returns-in-1

@@ -6,7 +6,6 @@ use Rattle.moves.specs.Fits.{keeps}
 use Rattle.sheet.specs.Table.{row_by, row_at}
 use Rattle.sheet.proofs.Rows.{row_other}
 use Rattle.front.proofs.ByKind.{keeps_mark, keeps_other}
-use borrow.Author.Rules.{rules}
 use Rattle.front.proofs.keeps.Goals as goal
 
 pub returns-in-1 : goal.returns-in-1

@@ -1,5 +1,4 @@
 use Rattle.steps.specs.Push.{set_if}
-use borrow.Author.Rules.{rules}
 use Rattle.front.proofs.mark_child.Goals as goal
 
 pub returns-then-on-child : goal.returns-then-on-child

@@ -1,5 +1,4 @@
 use Rattle.front.proofs.ByKind.{passed_mark, keeps_mark}
-use borrow.Author.Rules.{rules}
 use Rattle.front.proofs.step_next.Goals as goal
 
 pub returns : goal.returns

@@ -3,7 +3,6 @@ use borrow.Author.Tests.{ne_eqb}
 use Rattle.steps.specs.InFront.{waiting_step}
 use Rattle.sheet.specs.Table.{row_by, row_at}
 use Rattle.front.proofs.ByKind.{waiting_other}
-use borrow.Author.Rules.{rules}
 use Rattle.front.proofs.waiting_step.Goals as goal
 
 pub returns-in-1 : goal.returns-in-1

@@ -1,14 +1,9 @@
 use mathlib.Core.Path.{◌≡◌}
 use mathlib.Core.Path.{sym, ◌∙◌}
-use Prim.Native.Nat.{◌-◌, ◌≤◌}
-use lib.ListN.{length, length-set}
-use borrow.Author.Tests.{not-true, not-false}
-use Rattle.laws.specs.Up.{Filled}
+use lib.ListN.{length-set}
 use Rattle.laws.proofs.Up.{filled_more}
-use Rattle.laws.proofs.Checks.{Scanned, scanned_none, scanned_more, scanned_stop, scanned_end}
-use Rattle.reach.specs.Masks.{mask_at}
+use Rattle.laws.proofs.Checks.{scanned_none, scanned_more, scanned_stop, scanned_end}
 use Rattle.reach.proofs.Links.{mask_at_law}
-use Rattle.sheet.specs.Rules.{conditions}
 use native.Mathlib.Omega.{arith}
 use Rattle.judge.proofs.bad_condition.Goals as goal
 

@@ -1,9 +1,6 @@
 use native.Mathlib.Omega.{arith}
-use Prim.Native.Nat.{◌-◌, ◌≤◌}
 use mathlib.Core.Path.{◌≡◌, ◌∙◌}
-use borrow.Author.Tests.{not-true, not-false}
 use Rattle.laws.proofs.Checks.{place_end}
-use Rattle.judge.specs.Judge.{Sound}
 use Rattle.judge.proofs.Counts.{term_read, sound_more, sound_stop, sound_holds}
 use Rattle.judge.proofs.bad_term.Goals as goal
 

@@ -1,6 +1,5 @@
 use mathlib.Core.Path.{refl}
 use Rattle.judge.specs.Judge.{bumped}
-use borrow.Author.Rules.{rules}
 use Rattle.judge.proofs.bump.Goals as goal
 
 pub returns : goal.returns

@@ -1,5 +1,4 @@
 use Rattle.sheet.specs.Rules.{condition_ok}
-use borrow.Author.Rules.{rules}
 use Rattle.judge.proofs.condition_ok.Goals as goal
 
 pub returns : goal.returns

@@ -1,8 +1,6 @@
 use mathlib.Core.Path.{sym, ◌∙◌}
-use borrow.Author.Tests.{not-true, not-false}
 use Rattle.sheet.specs.Rules.{refusal_of}
 use Rattle.judge.proofs.Chain.{sized_lent, sizes_fails, sizes_holds}
-use borrow.Author.Rules.{rules}
 use Rattle.judge.proofs.judge.Goals as goal
 
 pub returns-then-not-sized_ok : goal.returns-then-not-sized_ok

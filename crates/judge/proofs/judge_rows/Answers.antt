@@ -1,12 +1,10 @@
 use Rattle.judge.proofs.Counts.{children_few}
 use native.Mathlib.Omega.{arith}
-use Prim.Native.Nat.{◌-◌, ◌≤◌}
 use mathlib.Core.Path.{◌≡◌, ◌∙◌}
-use borrow.Author.Tests.{not-true, not-false}
 use Rattle.sheet.specs.Table.{table_of, row_at}
 use Rattle.judge.proofs.Chain.{fails}
 use Rattle.judge.proofs.Counts.{term_read, sound_stop}
-use Rattle.judge.proofs.Pass.{Passed, none_passed, row_passed, row_misnamed, all_passed, rows_hold}
+use Rattle.judge.proofs.Pass.{none_passed, row_passed, row_misnamed, all_passed, rows_hold}
 use Rattle.judge.proofs.judge_rows.Goals as goal
 
 pub loop-i-init : goal.loop-i-init

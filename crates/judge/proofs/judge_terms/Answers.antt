@@ -1,5 +1,4 @@
 use Rattle.judge.proofs.Counts.{children_none}
-use borrow.Author.Rules.{rules}
 use Rattle.judge.proofs.judge_terms.Goals as goal
 
 pub judge_rows-requires : goal.judge_rows-requires

@@ -1,5 +1,4 @@
 use mathlib.Core.Path.{◌∙◌}
-use borrow.Author.Rules.{rules}
 use Rattle.judge.proofs.Chain.{fails, holds}
 use Rattle.judge.proofs.judge_wanted.Goals as goal
 

@@ -3,7 +3,6 @@ use borrow.Author.Tests.{ne_eqb}
 use Rattle.sheet.proofs.Rows.{row_one_child}
 use Rattle.judge.specs.Judge.{Few}
 use Rattle.judge.proofs.Counts.{bumped_few, one_child, two_children}
-use borrow.Author.Rules.{rules}
 use Rattle.judge.proofs.note_children.Goals as goal
 
 pub bump-requires : goal.bump-requires

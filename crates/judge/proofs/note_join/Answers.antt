@@ -1,5 +1,4 @@
 use mathlib.Core.Path.{refl}
-use borrow.Author.Rules.{rules}
 use Rattle.judge.specs.Judge.{join_noted}
 use Rattle.judge.proofs.note_join.Goals as goal
 

@@ -1,6 +1,5 @@
 use borrow.Author.Tests.{ne_eqb}
 use Rattle.judge.specs.Judge.{links_noted}
-use borrow.Author.Rules.{rules}
 use Rattle.judge.proofs.note_links.Goals as goal
 
 pub returns-in-2 : goal.returns-in-2

@@ -1,5 +1,4 @@
 use Rattle.judge.specs.Judge.{source_noted}
-use borrow.Author.Rules.{rules}
 use Rattle.judge.proofs.note_source.Goals as goal
 
 pub returns : goal.returns

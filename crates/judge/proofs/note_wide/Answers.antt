@@ -7,7 +7,6 @@ use Rattle.laws.specs.Listed.{listed}
 use Rattle.laws.proofs.Tests.{or_is}
 use Rattle.reach.specs.Masks.{has_bit}
 use Rattle.judge.specs.Judge.{wide_noted}
-use borrow.Author.Rules.{rules}
 use Rattle.judge.proofs.note_wide.Goals as goal
 
 -- either way, by what the test says

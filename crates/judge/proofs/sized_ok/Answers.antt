@@ -1,6 +1,5 @@
 use borrow.Author.Tests.{le-leb, lt-leb}
 use Rattle.sheet.specs.Rules.{sized}
-use borrow.Author.Rules.{rules}
 use Rattle.judge.proofs.sized_ok.Goals as goal
 
 pub returns-then-n-lt1 : goal.returns-then-n-lt1

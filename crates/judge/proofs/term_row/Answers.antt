@@ -1,6 +1,5 @@
 use borrow.Author.Tests.{ne_eqb}
 use Rattle.sheet.specs.Rules.{term_rule}
-use borrow.Author.Rules.{rules}
 use Rattle.judge.proofs.term_row.Goals as goal
 
 pub returns-in-0 : goal.returns-in-0

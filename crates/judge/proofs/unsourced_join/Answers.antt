@@ -1,10 +1,7 @@
 use native.Mathlib.Omega.{arith}
-use Prim.Native.Nat.{◌-◌}
 use mathlib.Core.Path.{sym, ◌∙◌}
-use borrow.Author.Tests.{not-true, not-false}
-use borrow.Author.Rules.{rules}
 use Rattle.laws.proofs.Checks.{place_end}
-use Rattle.laws.proofs.Lowest.{Searched, searched_none, searched_more, searched_stop, searched_end}
+use Rattle.laws.proofs.Lowest.{searched_none, searched_more, searched_stop, searched_end}
 use Rattle.sheet.specs.Rules.{sourced}
 use Rattle.sheet.proofs.Accepted.{compacted_sourced}
 use Rattle.judge.specs.Judge.{row_within}

@@ -1,14 +1,6 @@
-use native.Mathlib.Omega.{arith}
 use Prim.Native.Nat.{◌-◌}
-use mathlib.Core.Path.{sym, ◌∙◌}
-use borrow.Author.Tests.{not-true, not-false}
-use borrow.Author.Rules.{rules}
-use Rattle.laws.proofs.Checks.{place_end}
-use Rattle.laws.proofs.Lowest.{Searched, searched_none, searched_more, searched_stop, searched_end}
-use Rattle.sheet.specs.Rules.{sourced}
-use Rattle.sheet.proofs.Accepted.{compacted_sourced}
+use Rattle.laws.proofs.Lowest.{Searched}
 use Rattle.judge.specs.Judge.{row_within}
-use Rattle.judge.proofs.Wanted.{wanted_sourced, searched_sourced}
 use Rattle.judge.proofs.unsourced_join.Given as goal
 
 abbrev pub invariant-loop-row : goal.invariant-loop-row

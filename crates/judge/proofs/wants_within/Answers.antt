@@ -1,5 +1,4 @@
 use borrow.Author.Tests.{ne_eqb}
-use borrow.Author.Rules.{rules}
 use Rattle.judge.specs.Judge.{wants_within}
 use Rattle.judge.proofs.wants_within.Goals as goal
 

@@ -1,6 +1,5 @@
 use borrow.Author.Tests.{lt-ltb, le-ltb}
 use Rattle.lanes.specs.Lanes.{link_lanes}
-use borrow.Author.Rules.{rules}
 use Rattle.lanes.proofs.of_link.Goals as goal
 
 pub returns-then-l-ge64 : goal.returns-then-l-ge64

@@ -1,6 +1,5 @@
 use mathlib.Core.Path.{sym, ◌∙◌}
 use Rattle.lanes.proofs.Operators.{lazy_is, strict_is, or_lazy, or_strict}
-use borrow.Author.Rules.{rules}
 use Rattle.lanes.proofs.or.Goals as goal
 
 pub returns-then-is_lazy : goal.returns-then-is_lazy

@@ -4,7 +4,6 @@ use native.Mathlib.Omega.{arith}
 use borrow.Author.Tests.{ne_eqb, le-ltb}
 use Rattle.sheet.specs.Table.{operator_of, condition_row_by}
 use Rattle.lanes.proofs.Rows.{stepped_false, stepped_true, stepped_link, stepped_op}
-use borrow.Author.Rules.{rules}
 use Rattle.lanes.proofs.row_by.Goals as goal
 
 from-four : (k : ℕ) → (k ≡ 0 → ⊥) → (k ≡ 1 → ⊥) → (k ≡ 2 → ⊥) → (k ≡ 3 → ⊥) → 4 ≤ k

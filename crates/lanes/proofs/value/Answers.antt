@@ -1,6 +1,5 @@
 use mathlib.Core.Path.{◌≡◌}
-use Prim.Native.Nat.{◌≤◌, ◌-◌}
-use Rattle.lanes.proofs.Rows.{Held, held_none, held_more, held_found}
+use Rattle.lanes.proofs.Rows.{held_none, held_more, held_found}
 use native.Mathlib.Omega.{arith}
 use Rattle.lanes.proofs.value.Goals as goal
 

@@ -1,6 +1,5 @@
 use native.Mathlib.Omega.{arith}
 use lib.ListN.{length-set}
-use borrow.Author.Rules.{rules}
 use Rattle.laying.proofs.Laid.{paste_four}
 use Rattle.laying.proofs.put.Goals as goal
 

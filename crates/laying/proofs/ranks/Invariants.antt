@@ -1,13 +1,8 @@
 use Prim.Native.Nat.{◌-◌, ◌≤◌}
-use mathlib.Core.Path.{◌≡◌, refl, sym}
-use native.Mathlib.Omega.{arith}
-use borrow.Author.Rules.{rules}
+use mathlib.Core.Path.{◌≡◌}
 use Rattle.laws.specs.Sums.{count}
-use Rattle.laws.proofs.Tests.{bit_small}
-use Rattle.laws.proofs.Sums.{count_zero, count_more}
 use Rattle.flags.specs.Flags.{flagged}
 use Rattle.laying.specs.Told.{Tells}
-use Rattle.laying.proofs.Told.{tells_none, tells_up}
 use Rattle.laying.proofs.ranks.Given as goal
 
 abbrev pub invariant-loop-i : goal.invariant-loop-i

@@ -1,5 +1,4 @@
 use mathlib.Core.Path.{sym, ap, ◌∙◌}
-use native.Mathlib.Omega.{arith}
 use Rattle.lines.specs.Page.{added}
 use Rattle.lines.proofs.Pages.{byte, then}
 use Rattle.lines.proofs.Decimal.{decimal_one, decimal_more}

@@ -1,5 +1,4 @@
 use Rattle.lines.specs.Lines.{step_line}
-use borrow.Author.Rules.{rules}
 use Rattle.lines.proofs.act_line.Goals as goal
 
 pub returns : goal.returns

@@ -1,6 +1,5 @@
 use Rattle.lines.specs.Lines.{verdict_line}
 use Rattle.lines.proofs.Pages.{byte, then}
-use borrow.Author.Rules.{rules}
 use Rattle.lines.proofs.fail_line.Goals as goal
 
 pub returns : goal.returns

@@ -1,7 +1,6 @@
 use mathlib.Core.Path.{sym, ap, ◌∙◌}
 use Rattle.lines.specs.Page.{added}
 use Rattle.lines.proofs.Pages.{wait_false, wait_link}
-use borrow.Author.Rules.{rules}
 use Rattle.lines.proofs.link_waited.Goals as goal
 
 pub returns-then-l-eq-NO_LINK : goal.returns-then-l-eq-NO_LINK

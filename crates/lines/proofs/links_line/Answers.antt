@@ -2,7 +2,6 @@ use mathlib.Core.Path.{sym, ap, ◌∙◌}
 use lib.Seq.{length-take-le}
 use Rattle.lines.specs.Page.{added}
 use Rattle.lines.proofs.Pages.{byte, then, links_none, links_some}
-use borrow.Author.Rules.{rules}
 use Rattle.lines.proofs.links_line.Goals as goal
 
 pub returns-then-m-eq0 : goal.returns-then-m-eq0

@@ -1,6 +1,5 @@
 use Rattle.lines.specs.Lines.{field}
 use Rattle.lines.proofs.Pages.{byte, then}
-use borrow.Author.Rules.{rules}
 use Rattle.lines.proofs.number.Goals as goal
 
 pub returns : goal.returns

@@ -1,9 +1,7 @@
-use Prim.Native.Nat.{◌-◌}
-use lib.ListN.{length, drop, get_or}
-use Rattle.lines.specs.Lines.{field, fields}
-use Rattle.lines.proofs.Pages.{Adding, adding_none, adding_more, adding_all, fields_next, fields_end}
+use lib.ListN.{get_or}
+use Rattle.lines.specs.Lines.{field}
+use Rattle.lines.proofs.Pages.{adding_none, adding_more, adding_all, fields_next, fields_end}
 use native.Mathlib.Omega.{arith}
-use borrow.Author.Rules.{rules}
 use Rattle.lines.proofs.numbers.Goals as goal
 
 pub loop-i-init : goal.loop-i-init

@@ -1,9 +1,7 @@
 use Prim.Native.Nat.{◌-◌}
-use lib.ListN.{length, drop, get_or}
-use Rattle.lines.specs.Lines.{field, fields}
-use Rattle.lines.proofs.Pages.{Adding, adding_none, adding_more, adding_all, fields_next, fields_end}
-use native.Mathlib.Omega.{arith}
-use borrow.Author.Rules.{rules}
+use lib.ListN.{length, drop}
+use Rattle.lines.specs.Lines.{fields}
+use Rattle.lines.proofs.Pages.{Adding}
 use Rattle.lines.proofs.numbers.Given as goal
 
 abbrev pub invariant-loop-i : goal.invariant-loop-i

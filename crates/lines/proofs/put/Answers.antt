@@ -1,5 +1,4 @@
 use Rattle.lines.proofs.Pages.{more_room, more_full}
-use borrow.Author.Rules.{rules}
 use Rattle.lines.proofs.put.Goals as goal
 
 pub returns-then-at-out : goal.returns-then-at-out

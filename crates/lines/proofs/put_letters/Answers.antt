@@ -1,12 +1,9 @@
 use mathlib.Core.Path.{ap, ◌∙◌}
 use Rattle.lines.specs.Page.{more}
 use mathlib.Core.List.{[], ◌∷◌}
-use Prim.Native.Nat.{◌-◌}
-use lib.ListN.{length, drop, get_or}
-use Rattle.lines.specs.Lines.{letters, letter}
-use Rattle.lines.proofs.Pages.{Adding, adding_none, adding_more, adding_all, byte, letters_next, letters_end}
-use native.Mathlib.Omega.{arith}
-use borrow.Author.Rules.{rules}
+use lib.ListN.{get_or}
+use Rattle.lines.specs.Lines.{letter}
+use Rattle.lines.proofs.Pages.{adding_none, adding_more, adding_all, byte, letters_next, letters_end}
 use Rattle.lines.proofs.put_letters.Goals as goal
 
 pub loop-i-init : goal.loop-i-init

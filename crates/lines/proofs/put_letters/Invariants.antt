@@ -1,12 +1,7 @@
-use mathlib.Core.Path.{ap, ◌∙◌}
-use Rattle.lines.specs.Page.{more}
-use mathlib.Core.List.{[], ◌∷◌}
 use Prim.Native.Nat.{◌-◌}
-use lib.ListN.{length, drop, get_or}
-use Rattle.lines.specs.Lines.{letters, letter}
-use Rattle.lines.proofs.Pages.{Adding, adding_none, adding_more, adding_all, byte, letters_next, letters_end}
-use native.Mathlib.Omega.{arith}
-use borrow.Author.Rules.{rules}
+use lib.ListN.{length, drop}
+use Rattle.lines.specs.Lines.{letters}
+use Rattle.lines.proofs.Pages.{Adding}
 use Rattle.lines.proofs.put_letters.Given as goal
 
 abbrev pub invariant-loop-i : goal.invariant-loop-i

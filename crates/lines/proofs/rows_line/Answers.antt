@@ -1,6 +1,5 @@
 use Rattle.lines.specs.Lines.{rows_line}
 use Rattle.lines.proofs.Pages.{byte, then}
-use borrow.Author.Rules.{rules}
 use Rattle.lines.proofs.rows_line.Goals as goal
 
 pub returns : goal.returns

@@ -1,9 +1,5 @@
-use Prim.Native.Nat.{◌-◌}
-use lib.ListN.{length, drop}
-use Rattle.lines.specs.Lines.{wait_fields}
-use Rattle.lines.proofs.Pages.{Adding, adding_none, adding_wait, adding_all, waits_end}
+use Rattle.lines.proofs.Pages.{adding_none, adding_wait, adding_all, waits_end}
 use native.Mathlib.Omega.{arith}
-use borrow.Author.Rules.{rules}
 use Rattle.lines.proofs.rows_waiting.Goals as goal
 
 pub loop-i-init : goal.loop-i-init

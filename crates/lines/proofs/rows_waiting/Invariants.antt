@@ -1,9 +1,7 @@
 use Prim.Native.Nat.{◌-◌}
 use lib.ListN.{length, drop}
 use Rattle.lines.specs.Lines.{wait_fields}
-use Rattle.lines.proofs.Pages.{Adding, adding_none, adding_wait, adding_all, waits_end}
-use native.Mathlib.Omega.{arith}
-use borrow.Author.Rules.{rules}
+use Rattle.lines.proofs.Pages.{Adding}
 use Rattle.lines.proofs.rows_waiting.Given as goal
 
 abbrev pub invariant-loop-i : goal.invariant-loop-i

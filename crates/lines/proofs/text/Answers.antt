@@ -1,9 +1,7 @@
 use mathlib.Core.List.{[], ◌∷◌}
-use Prim.Native.Nat.{◌-◌}
-use lib.ListN.{length, drop, drop_of_length-le, get_or}
-use Rattle.lines.proofs.Pages.{Adding, adding_none, adding_more, adding_all, byte, next}
+use lib.ListN.{drop_of_length-le, get_or}
+use Rattle.lines.proofs.Pages.{adding_none, adding_more, adding_all, byte, next}
 use native.Mathlib.Omega.{arith}
-use borrow.Author.Rules.{rules}
 use Rattle.lines.proofs.text.Goals as goal
 
 pub loop-i-init : goal.loop-i-init

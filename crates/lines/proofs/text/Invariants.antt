@@ -1,9 +1,6 @@
-use mathlib.Core.List.{[], ◌∷◌}
 use Prim.Native.Nat.{◌-◌}
-use lib.ListN.{length, drop, drop_of_length-le, get_or}
-use Rattle.lines.proofs.Pages.{Adding, adding_none, adding_more, adding_all, byte, next}
-use native.Mathlib.Omega.{arith}
-use borrow.Author.Rules.{rules}
+use lib.ListN.{length, drop}
+use Rattle.lines.proofs.Pages.{Adding}
 use Rattle.lines.proofs.text.Given as goal
 
 abbrev pub invariant-loop-i : goal.invariant-loop-i

@@ -1,7 +1,6 @@
 use mathlib.Core.Path.{sym, ap, ◌∙◌}
 use Rattle.lines.specs.Page.{added}
 use Rattle.lines.specs.Lines.{verdict_line}
-use borrow.Author.Rules.{rules}
 use Rattle.lines.proofs.verdict_line.Goals as goal
 
 pub returns-in-Pass : goal.returns-in-Pass

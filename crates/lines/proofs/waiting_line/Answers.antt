@@ -1,6 +1,5 @@
 use Rattle.lines.specs.Lines.{waiting_line}
 use Rattle.lines.proofs.Pages.{byte, then}
-use borrow.Author.Rules.{rules}
 use Rattle.lines.proofs.waiting_line.Goals as goal
 
 pub returns : goal.returns

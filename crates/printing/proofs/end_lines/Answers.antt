@@ -8,7 +8,6 @@ use Rattle.lines.proofs.Pages.{then}
 use Rattle.printing.specs.Printed.{end_lines}
 use Rattle.promises.proofs.Calls.{formed}
 use Rattle.printing.proofs.Runs.{line_of, stand_unrefused, waited_lies, waited_part}
-use borrow.Author.Rules.{rules}
 use Rattle.printing.proofs.end_lines.Goals as goal
 
 pub links_line-end-requires : goal.links_line-end-requires

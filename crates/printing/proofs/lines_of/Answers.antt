@@ -1,7 +1,6 @@
 use mathlib.Core.Path.{ap, ◌∙◌}
 use Rattle.lines.specs.Page.{added}
 use Rattle.printing.proofs.Judging.{leading_cut, sheet_cut, input_goes}
-use borrow.Author.Rules.{rules}
 use Rattle.printing.proofs.lines_of.Goals as goal
 
 pub returns-then-length-lt3 : goal.returns-then-length-lt3

@@ -4,7 +4,6 @@ use lib.Seq.{length-take-le}
 use Rattle.lines.specs.Page.{added}
 use Rattle.lines.specs.Lines.{enabled_word, rows_line}
 use Rattle.printing.proofs.Runs.{fetched_lies, fetched_part, fetched_unrefused, listed_fetched}
-use borrow.Author.Rules.{rules}
 use Rattle.printing.proofs.listed_line.Goals as goal
 
 pub slice_bounds-rows-end : goal.slice_bounds-rows-end

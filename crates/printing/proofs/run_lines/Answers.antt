@@ -2,7 +2,6 @@ use mathlib.Core.Path.{ap, ◌∙◌}
 use Rattle.lines.specs.Page.{added}
 use Rattle.lines.proofs.Pages.{then}
 use Rattle.printing.proofs.Judging.{run_refused, run_begins, run_goes}
-use borrow.Author.Rules.{rules}
 use Rattle.printing.proofs.run_lines.Goals as goal
 
 pub returns-then-number-ne0 : goal.returns-then-number-ne0

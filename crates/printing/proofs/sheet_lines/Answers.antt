@@ -1,7 +1,6 @@
 use mathlib.Core.Path.{refl, ap, ◌∙◌}
 use Rattle.lines.specs.Page.{added}
 use Rattle.printing.proofs.Judging.{sheet_goes, sheet_refused}
-use borrow.Author.Rules.{rules}
 use Rattle.printing.proofs.sheet_lines.Goals as goal
 
 pub returns-in-Sheet : goal.returns-in-Sheet

@@ -4,7 +4,6 @@ use lib.Seq.{length-take-le}
 use Rattle.lines.specs.Page.{added}
 use Rattle.lines.specs.Lines.{waiting_line}
 use Rattle.printing.proofs.Runs.{fetched_lies, fetched_part, fetched_unrefused, waits_fetched, waits_matched}
-use borrow.Author.Rules.{rules}
 use Rattle.printing.proofs.waited_line.Goals as goal
 
 pub slice_bounds-links-end : goal.slice_bounds-links-end

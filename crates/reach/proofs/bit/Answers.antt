@@ -5,7 +5,6 @@ use mathlib.Core.Path.{◌∙◌}
 use borrow.Author.Tests.{lt-ltb, le-ltb}
 use Rattle.reach.specs.Masks.{link_bit}
 use native.Mathlib.Omega.{arith}
-use borrow.Author.Rules.{rules}
 use Rattle.reach.proofs.bit.Goals as goal
 
 pub returns-then-l-ge64 : goal.returns-then-l-ge64

@@ -1,4 +1,3 @@
-use borrow.Author.Rules.{rules}
 use Rattle.reach.proofs.both.Goals as goal
 
 pub returns : goal.returns

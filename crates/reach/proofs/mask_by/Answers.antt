@@ -1,7 +1,6 @@
 use borrow.Author.Tests.{lt-ltb, le-ltb, ne_eqb}
 use Rattle.sheet.specs.Table.{condition_row_by}
 use Rattle.reach.specs.Masks.{mask_by}
-use borrow.Author.Rules.{rules}
 use Rattle.reach.proofs.mask_by.Goals as goal
 
 pub returns-in-0 : goal.returns-in-0

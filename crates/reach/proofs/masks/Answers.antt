@@ -1,9 +1,6 @@
 use mathlib.Core.Path.{◌≡◌, refl, ◌∙◌}
-use Prim.Native.Nat.{◌≤◌, ◌-◌}
-use lib.ListN.{length, length-set}
-use Rattle.laws.specs.Up.{Filled}
+use lib.ListN.{length-set}
 use Rattle.laws.proofs.Up.{filled_none, filled_more}
-use Rattle.reach.specs.Masks.{mask_at}
 use Rattle.reach.proofs.Links.{mask_at_law}
 use native.Mathlib.Omega.{arith}
 use Rattle.reach.proofs.masks.Goals as goal

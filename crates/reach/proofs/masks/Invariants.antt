@@ -1,11 +1,8 @@
-use mathlib.Core.Path.{◌≡◌, refl, ◌∙◌}
+use mathlib.Core.Path.{◌≡◌}
 use Prim.Native.Nat.{◌≤◌, ◌-◌}
-use lib.ListN.{length, length-set}
+use lib.ListN.{length}
 use Rattle.laws.specs.Up.{Filled}
-use Rattle.laws.proofs.Up.{filled_none, filled_more}
 use Rattle.reach.specs.Masks.{mask_at}
-use Rattle.reach.proofs.Links.{mask_at_law}
-use native.Mathlib.Omega.{arith}
 use Rattle.reach.proofs.masks.Given as goal
 
 abbrev pub invariant-loop-i : goal.invariant-loop-i

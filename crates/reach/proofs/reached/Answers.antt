@@ -1,6 +1,5 @@
 use mathlib.Core.Path.{refl}
 use Rattle.reach.specs.Masks.{has_bit}
-use borrow.Author.Rules.{rules}
 use Rattle.reach.proofs.reached.Goals as goal
 
 pub returns : goal.returns

@@ -1,5 +1,4 @@
 use Rattle.sheet.specs.Table.{condition_row_at}
-use borrow.Author.Rules.{rules}
 use Rattle.reach.proofs.step.Goals as goal
 
 pub returns : goal.returns

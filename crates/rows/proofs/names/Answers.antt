@@ -1,6 +1,5 @@
 use Rattle.laws.proofs.Tests.{or_is}
 use Rattle.steps.specs.InFront.{names}
-use borrow.Author.Rules.{rules}
 use Rattle.rows.proofs.names.Goals as goal
 
 pub returns : goal.returns

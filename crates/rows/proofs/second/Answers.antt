@@ -1,5 +1,4 @@
 use Rattle.sheet.specs.Table.{row_at}
-use borrow.Author.Rules.{rules}
 use Rattle.rows.proofs.second.Goals as goal
 
 pub returns : goal.returns

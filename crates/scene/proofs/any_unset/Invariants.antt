@@ -1,17 +1,10 @@
 use Prim.Native.Nat.{◌-◌, ◌≤◌}
-use mathlib.Core.Path.{◌≡◌, refl, sym, ◌∙◌}
-use native.Mathlib.Omega.{arith}
-use native.Mathlib.Nat.{sub-zero}
-use lib.Dec.{ltb}
-use lib.ListN.{get_or}
+use mathlib.Core.Path.{◌≡◌}
 use Rattle.laws.specs.Listed.{listed}
-use Rattle.laws.proofs.Tests.{and_l}
 use Rattle.laws.proofs.Listed.{left}
 use Rattle.reach.specs.Masks.{has_bit}
 use Rattle.evaluate.specs.Values.{links_in}
 use Rattle.damage.specs.Scene.{any_unset}
-use Rattle.scene.proofs.Bytes.{found_unset, none_unset}
-use Rattle.scene.proofs.Setting.{unset_here, unset_next, unset_none}
 use Rattle.scene.proofs.any_unset.Given as goal
 
 abbrev pub invariant-loop-l : goal.invariant-loop-l

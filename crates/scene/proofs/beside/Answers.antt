@@ -1,6 +1,5 @@
 use mathlib.Core.Path.{refl}
 use native.Mathlib.Omega.{arith}
-use borrow.Author.Rules.{rules}
 use Rattle.laws.proofs.Listed.{listed_under}
 use Rattle.scene.proofs.Rows.{outs_upto, beside_laid}
 use Rattle.scene.proofs.beside.Goals as goal

@@ -1,5 +1,4 @@
 use native.Mathlib.Omega.{arith}
-use borrow.Author.Rules.{rules}
 use Rattle.scene.proofs.Rows.{outs_upto, chain_laid}
 use Rattle.scene.proofs.chain.Goals as goal
 

@@ -1,4 +1,3 @@
-use borrow.Author.Rules.{rules}
 use Rattle.scene.proofs.Rows.{choice_laid}
 use Rattle.scene.proofs.choice.Goals as goal
 

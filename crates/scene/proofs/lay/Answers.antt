@@ -1,7 +1,5 @@
 use mathlib.Core.Path.{sym, ◌∙◌}
 use native.Mathlib.Omega.{arith}
-use borrow.Author.Tests.{not-true, not-false}
-use borrow.Author.Rules.{rules}
 use Rattle.scene.proofs.Rows.{chain_upto, scene_chain, scene_both}
 use Rattle.scene.proofs.lay.Goals as goal
 

@@ -1,14 +1,10 @@
-use Prim.Native.Nat.{◌-◌}
 use mathlib.Core.Path.{refl, sym, ◌∙◌}
 use native.Mathlib.Omega.{arith}
 use lib.Dec.{ltb}
 use lib.ListN.{get_or}
-use borrow.Author.Rules.{rules}
-use Rattle.reach.specs.Masks.{has_bit}
-use Rattle.evaluate.specs.Values.{links_in}
 use Rattle.laws.proofs.Tests.{and_l}
 use Rattle.scene.proofs.Bytes.{found_set, none_set}
-use Rattle.scene.proofs.Setting.{Outs, outs_none, outs_skip, outs_room, outs_put, outs_all}
+use Rattle.scene.proofs.Setting.{outs_none, outs_skip, outs_room, outs_put, outs_all}
 use Rattle.scene.proofs.outs.Goals as goal
 
 pub loop-l-init : goal.loop-l-init

@@ -1,11 +1,7 @@
-use Prim.Native.Nat.{◌-◌, ◌*◌, ◌≤◌}
-use mathlib.Core.Path.{◌≡◌, refl, ◌∙◌}
+use mathlib.Core.Path.{refl, ◌∙◌}
 use native.Mathlib.Omega.{arith}
 use lib.Dec.{eqb}
-use lib.ListN.{get_or, length, length-set}
-use borrow.Author.Rules.{rules}
-use Rattle.laws.specs.Tests.{bit}
-use Rattle.laws.specs.Up.{Filled}
+use lib.ListN.{get_or, length-set}
 use Rattle.laws.proofs.Tests.{bit_small}
 use Rattle.laws.proofs.Up.{filled_none, filled_more, filled_at}
 use Rattle.scene.proofs.Bytes.{true_where_unset_told}

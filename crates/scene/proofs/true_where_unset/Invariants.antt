@@ -1,14 +1,9 @@
 use Prim.Native.Nat.{◌-◌, ◌*◌, ◌≤◌}
-use mathlib.Core.Path.{◌≡◌, refl, ◌∙◌}
-use native.Mathlib.Omega.{arith}
+use mathlib.Core.Path.{◌≡◌}
 use lib.Dec.{eqb}
-use lib.ListN.{get_or, length, length-set}
-use borrow.Author.Rules.{rules}
+use lib.ListN.{get_or, length}
 use Rattle.laws.specs.Tests.{bit}
 use Rattle.laws.specs.Up.{Filled}
-use Rattle.laws.proofs.Tests.{bit_small}
-use Rattle.laws.proofs.Up.{filled_none, filled_more, filled_at}
-use Rattle.scene.proofs.Bytes.{true_where_unset_told}
 use Rattle.scene.proofs.true_where_unset.Given as goal
 
 abbrev pub invariant-loop-l : goal.invariant-loop-l

@@ -1,8 +1,5 @@
-use Prim.Native.Nat.{◌-◌}
 use mathlib.Core.Path.{sym, ◌∙◌}
-use native.Mathlib.Omega.{arith}
-use Rattle.reach.specs.Masks.{has_bit}
-use Rattle.scene.proofs.Bytes.{Digits, digits_none, digits_hit, digits_miss, digits_all}
+use Rattle.scene.proofs.Bytes.{digits_none, digits_hit, digits_miss, digits_all}
 use Rattle.scene.proofs.values.Goals as goal
 
 pub loop-l-init : goal.loop-l-init

@@ -1,8 +1,6 @@
 use Prim.Native.Nat.{◌-◌}
-use mathlib.Core.Path.{sym, ◌∙◌}
-use native.Mathlib.Omega.{arith}
 use Rattle.reach.specs.Masks.{has_bit}
-use Rattle.scene.proofs.Bytes.{Digits, digits_none, digits_hit, digits_miss, digits_all}
+use Rattle.scene.proofs.Bytes.{Digits}
 use Rattle.scene.proofs.values.Given as goal
 
 abbrev pub invariant-loop-l : goal.invariant-loop-l

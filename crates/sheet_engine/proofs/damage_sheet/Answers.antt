@@ -1,5 +1,4 @@
 use mathlib.Core.Path.{sym, ◌∙◌, ap}
-use borrow.Author.Rules.{rules}
 use Rattle.sheet.specs.declared.Refusal.{Refusal}
 use Rattle.sheet_engine.proofs.Calls.{damage_refused, damage_shown}
 use Rattle.sheet_engine.proofs.damage_sheet.Goals as goal

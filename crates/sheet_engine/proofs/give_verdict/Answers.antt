@@ -1,5 +1,4 @@
 use Rattle.sheet_engine.proofs.Calls.{judged, verdict_refused, pass_given, fail_given}
-use borrow.Author.Rules.{rules}
 use Rattle.sheet_engine.proofs.give_verdict.Goals as goal
 
 pub returns-then-number-ne0 : goal.returns-then-number-ne0

@@ -1,6 +1,5 @@
 use Rattle.sheet.proofs.Accepted.{accepted_form, rows_lent}
 use Rattle.sheet_engine.proofs.Steps.{table_first, state_then}
-use borrow.Author.Rules.{rules}
 use Rattle.sheet_engine.proofs.judge_state.Goals as goal
 
 pub returns-then-number-ne0 : goal.returns-then-number-ne0

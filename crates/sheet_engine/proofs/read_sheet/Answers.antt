@@ -1,5 +1,4 @@
 use native.Mathlib.Omega.{arith}
-use borrow.Author.Rules.{rules}
 use Rattle.sheet_engine.proofs.read_sheet.Goals as goal
 
 pub returns : goal.returns

@@ -2,9 +2,8 @@ use mathlib.Core.Path.{sym, ◌∙◌, ap}
 use Rattle.sheet.specs.Table.{table_of}
 use Rattle.sheet.proofs.Accepted.{accepted_form, rows_lent}
 use Rattle.moves.specs.Steps.{counted}
-use borrow.Author.Tests.{leb-true, leb-false, not-true, not-false}
+use borrow.Author.Tests.{leb-true, leb-false}
 use Rattle.sheet_engine.proofs.Calls.{start_refused, start_bad_mode, start_fresh}
-use borrow.Author.Rules.{rules}
 use Rattle.sheet_engine.proofs.start.Goals as goal
 
 pub returns-then-number-ne0 : goal.returns-then-number-ne0

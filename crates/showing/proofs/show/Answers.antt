@@ -1,6 +1,5 @@
 use mathlib.Core.Path.{refl, sym, ◌∙◌}
 use native.Mathlib.Omega.{arith}
-use borrow.Author.Rules.{rules}
 use Rattle.verdict.proofs.Judged.{accepted_judged}
 use Rattle.verdict.proofs.Joins.{narrow}
 use Rattle.showing.proofs.Answers.{not_shown}

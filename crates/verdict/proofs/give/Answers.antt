@@ -1,14 +1,7 @@
 use mathlib.Core.Path.{sym, ◌∙◌}
-use Prim.Native.Nat.{◌-◌}
-use native.Mathlib.Omega.{arith}
-use Rattle.laws.specs.Up.{Filled}
-use Rattle.laws.proofs.Lowest.{Searched, searched_none, searched_more, searched_stop, searched_end}
-use Rattle.sheet.specs.Table.{table_of}
-use Rattle.reach.specs.Masks.{mask_at}
-use Rattle.verdict.specs.Verdict.{sound, failing}
-use Rattle.verdict.specs.Tried.{Tried}
+use Rattle.laws.proofs.Lowest.{searched_none, searched_more, searched_stop, searched_end}
+use Rattle.verdict.specs.Verdict.{failing}
 use Rattle.verdict.proofs.Joins.{none_sound, some_unsound, verdict_fail, verdict_pass, tried_none, tried_mark}
-use borrow.Author.Rules.{rules}
 use Rattle.verdict.proofs.give.Goals as goal
 
 pub loop-j-init : goal.loop-j-init

@@ -1,7 +1,6 @@
 use Prim.Native.Nat.{◌+◌, ◌*◌}
 use Rattle.verdict.proofs.Joins.{mark_join, mark_other}
 use native.Mathlib.Omega.{arith}
-use borrow.Author.Rules.{rules}
 use Rattle.verdict.proofs.mark.Goals as goal
 
 pub overflow_cast-seen : goal.overflow_cast-seen

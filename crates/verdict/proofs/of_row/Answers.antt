@@ -1,7 +1,6 @@
 use mathlib.Core.Path.{sym, ◌∙◌}
 use Rattle.sheet.specs.Table.{table_of}
 use Rattle.verdict.proofs.Joins.{narrow, failure_other, failure_join, failure_tried}
-use borrow.Author.Rules.{rules}
 use Rattle.verdict.proofs.of_row.Goals as goal
 
 pub returns-then-kind-ne3 : goal.returns-then-kind-ne3

@@ -1,6 +1,5 @@
 use Rattle.words.proofs.Patterns.{word_not}
 use native.Mathlib.Omega.{arith}
-use borrow.Author.Rules.{rules}
 use Rattle.words.proofs.binary.Goals as goal
 
 pub returns-then-d-eq1 : goal.returns-then-d-eq1

@@ -1,5 +1,4 @@
 use Rattle.words.specs.Words.{base_of}
-use borrow.Author.Rules.{rules}
 use Rattle.words.proofs.digit_word.Goals as goal
 
 pub returns-then-thirds : goal.returns-then-thirds

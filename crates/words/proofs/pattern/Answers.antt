@@ -1,5 +1,4 @@
 use Rattle.words.proofs.Patterns.{pattern_low, pattern_ones, pattern_zeros}
-use borrow.Author.Rules.{rules}
 use Rattle.words.proofs.pattern.Goals as goal
 
 pub returns-then-i-lt6 : goal.returns-then-i-lt6

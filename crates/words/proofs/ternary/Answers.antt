@@ -1,6 +1,4 @@
-use mathlib.Core.Path.{◌≡◌}
-use Prim.Native.Nat.{◌≤◌, ◌-◌, ◌^◌}
-use Rattle.words.proofs.Patterns.{Laned, laned_none, laned_hit, laned_miss, digit_at, digit_hit, digit_miss, laned_end, three_positive}
+use Rattle.words.proofs.Patterns.{laned_none, laned_hit, laned_miss, digit_hit, digit_miss, laned_end, three_positive}
 use native.Mathlib.Omega.{arith}
 use Rattle.words.proofs.ternary.Goals as goal
 

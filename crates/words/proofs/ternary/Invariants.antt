@@ -1,7 +1,6 @@
 use mathlib.Core.Path.{◌≡◌}
 use Prim.Native.Nat.{◌≤◌, ◌-◌, ◌^◌}
-use Rattle.words.proofs.Patterns.{Laned, laned_none, laned_hit, laned_miss, digit_at, digit_hit, digit_miss, laned_end, three_positive}
-use native.Mathlib.Omega.{arith}
+use Rattle.words.proofs.Patterns.{Laned, digit_at}
 use Rattle.words.proofs.ternary.Given as goal
 
 abbrev pub invariant-loop-j : goal.invariant-loop-j

@@ -1,6 +1,5 @@
 use Rattle.words.proofs.Patterns.{power_at}
 use native.Mathlib.Omega.{arith}
-use borrow.Author.Rules.{rules}
 use Rattle.words.proofs.three_to.Goals as goal
 
 pub returns : goal.returns

@@ -1,8 +1,5 @@
 use mathlib.Core.Path.{sym, ◌∙◌}
-use Prim.Native.Nat.{◌≤◌, ◌-◌}
-use Rattle.reach.specs.Masks.{has_bit}
-use Rattle.words.specs.Words.{base_of}
-use Rattle.words.proofs.Filling.{Worded, worded_none, worded_hit, worded_miss, worded_few, worded_end}
+use Rattle.words.proofs.Filling.{worded_none, worded_hit, worded_miss, worded_few, worded_end}
 use native.Mathlib.Omega.{arith}
 use Rattle.words.proofs.words.Goals as goal
 

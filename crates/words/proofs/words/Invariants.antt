@@ -1,9 +1,7 @@
-use mathlib.Core.Path.{sym, ◌∙◌}
 use Prim.Native.Nat.{◌≤◌, ◌-◌}
 use Rattle.reach.specs.Masks.{has_bit}
 use Rattle.words.specs.Words.{base_of}
-use Rattle.words.proofs.Filling.{Worded, worded_none, worded_hit, worded_miss, worded_few, worded_end}
-use native.Mathlib.Omega.{arith}
+use Rattle.words.proofs.Filling.{Worded}
 use Rattle.words.proofs.words.Given as goal
 
 abbrev pub invariant-loop-l : goal.invariant-loop-l

@@ -4,7 +4,6 @@ use Prim.Native.Nat.{◌-◌, ◌%◌, ◌^◌}
 use mathlib.Core.Path.{◌∙◌}
 use Rattle.worth.proofs.Places.{adds_one}
 use native.Mathlib.Omega.{arith}
-use borrow.Author.Rules.{rules}
 use Rattle.worth.proofs.add.Goals as goal
 
 pub returns : goal.returns

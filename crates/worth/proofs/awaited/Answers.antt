@@ -1,15 +1,8 @@
 use mathlib.Core.Path.{◌∙◌}
 use Rattle.laws.proofs.Tests.{or_r, self}
 use Rattle.worth.proofs.Places.{next_after, next_placed}
-use Prim.Native.Nat.{◌-◌, ◌≤◌, ◌<◌}
-use mathlib.Core.Path.{◌≡◌, refl}
-use mathlib.Core.Bool.{true}
-use lib.ListN.{length}
-use Rattle.conditions.specs.Conditions.{condition}
-use Rattle.sheet.specs.Table.{condition_row_at}
-use Rattle.evaluate.specs.Values.{links_in}
-use Rattle.worth.specs.Sets.{placed, in_set}
-use Rattle.worth.proofs.Falling.{Sought, sought_none, sought_more, sought_end}
+use mathlib.Core.Path.{refl}
+use Rattle.worth.proofs.Falling.{sought_none, sought_more, sought_end}
 use native.Mathlib.Omega.{arith}
 use Rattle.worth.proofs.awaited.Goals as goal
 

@@ -2,7 +2,6 @@ use Prim.Native.Nat.{◌/◌, ◌^◌}
 use lib.Count.{trailing_le}
 use Rattle.worth.proofs.Places.{first_none, first_some}
 use native.Mathlib.Omega.{arith}
-use borrow.Author.Rules.{rules}
 use Rattle.worth.proofs.first_bit.Goals as goal
 
 pub returns-then-rest-eq0 : goal.returns-then-rest-eq0

@@ -1,11 +1,7 @@
-use Prim.Native.Nat.{◌-◌, ◌≤◌}
 use mathlib.Core.Path.{◌≡◌, ap, sym, ◌∙◌}
 use mathlib.Core.Bool.{not}
-use lib.Dec.{eqb}
-use lib.ListN.{get_or}
 use borrow.Author.Tests.{eq-eqb, ne_eqb}
-use Rattle.laws.proofs.Lowest.{Searched, searched_none, searched_more, searched_stop, searched_end}
-use Rattle.worth.specs.Pass.{condition_byte}
+use Rattle.laws.proofs.Lowest.{searched_none, searched_more, searched_stop, searched_end}
 use native.Mathlib.Omega.{arith}
 use Rattle.worth.proofs.first_on.Goals as goal
 

@@ -1,12 +1,9 @@
 use Prim.Native.Nat.{◌-◌, ◌≤◌}
-use mathlib.Core.Path.{◌≡◌, ap, sym, ◌∙◌}
 use mathlib.Core.Bool.{not}
 use lib.Dec.{eqb}
 use lib.ListN.{get_or}
-use borrow.Author.Tests.{eq-eqb, ne_eqb}
-use Rattle.laws.proofs.Lowest.{Searched, searched_none, searched_more, searched_stop, searched_end}
+use Rattle.laws.proofs.Lowest.{Searched}
 use Rattle.worth.specs.Pass.{condition_byte}
-use native.Mathlib.Omega.{arith}
 use Rattle.worth.proofs.first_on.Given as goal
 
 abbrev pub invariant-loop-i : goal.invariant-loop-i

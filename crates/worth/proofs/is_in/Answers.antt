@@ -1,7 +1,6 @@
 use mathlib.Core.Path.{refl}
 use Rattle.reach.specs.Masks.{has_bit}
 use Rattle.worth.specs.Sets.{placed}
-use borrow.Author.Rules.{rules}
 use Rattle.worth.proofs.is_in.Goals as goal
 
 pub returns : goal.returns

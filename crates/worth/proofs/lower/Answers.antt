@@ -1,7 +1,6 @@
 use Rattle.worth.proofs.Falling.{lower_over}
 use mathlib.Core.Path.{sym}
 use Rattle.worth.proofs.Falling.{lower_unset, lower_set}
-use borrow.Author.Rules.{rules}
 use Rattle.worth.proofs.lower.Goals as goal
 
 pub returns-then-low-l : goal.returns-then-low-l

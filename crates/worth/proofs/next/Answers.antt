@@ -1,5 +1,4 @@
-use Prim.Native.Nat.{◌-◌, ◌≤◌}
-use Rattle.worth.proofs.Places.{Clear, clear_none, clear_word, next_here, next_none}
+use Rattle.worth.proofs.Places.{clear_none, clear_word, next_here, next_none}
 use native.Mathlib.Omega.{arith}
 use Rattle.worth.proofs.next.Goals as goal
 

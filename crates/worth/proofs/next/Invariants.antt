@@ -1,6 +1,5 @@
 use Prim.Native.Nat.{◌-◌, ◌≤◌}
-use Rattle.worth.proofs.Places.{Clear, clear_none, clear_word, next_here, next_none}
-use native.Mathlib.Omega.{arith}
+use Rattle.worth.proofs.Places.{Clear}
 use Rattle.worth.proofs.next.Given as goal
 
 abbrev pub invariant-loop-at : goal.invariant-loop-at

@@ -1,6 +1,5 @@
 use Rattle.worth.proofs.Values.{worth_0, worth_1, worth_2}
 use mathlib.Core.Path.{sym, ◌∙◌}
-use native.Mathlib.Omega.{arith}
 use Rattle.worth.proofs.of_row.Goals as goal
 
 pub returns-in-0 : goal.returns-in-0

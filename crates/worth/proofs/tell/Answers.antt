@@ -1,9 +1,7 @@
 use Rattle.worth.specs.Worth.{wait_byte}
-use Prim.Native.Nat.{◌-◌, ◌≤◌}
-use mathlib.Core.Path.{◌≡◌, refl, ap, ◌∙◌}
-use lib.ListN.{length}
-use Rattle.worth.specs.Pass.{byte_at, byte_of}
-use Rattle.worth.proofs.Telling.{Telling, telling_none, telling_more, telling_all, same_byte}
+use mathlib.Core.Path.{refl, ap, ◌∙◌}
+use Rattle.worth.specs.Pass.{byte_at}
+use Rattle.worth.proofs.Telling.{telling_none, telling_more, telling_all, same_byte}
 use native.Mathlib.Omega.{arith}
 use Rattle.worth.proofs.tell.Goals as goal
 

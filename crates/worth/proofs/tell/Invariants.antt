@@ -1,10 +1,8 @@
-use Rattle.worth.specs.Worth.{wait_byte}
 use Prim.Native.Nat.{◌-◌, ◌≤◌}
-use mathlib.Core.Path.{◌≡◌, refl, ap, ◌∙◌}
+use mathlib.Core.Path.{◌≡◌}
 use lib.ListN.{length}
-use Rattle.worth.specs.Pass.{byte_at, byte_of}
-use Rattle.worth.proofs.Telling.{Telling, telling_none, telling_more, telling_all, same_byte}
-use native.Mathlib.Omega.{arith}
+use Rattle.worth.specs.Pass.{byte_of}
+use Rattle.worth.proofs.Telling.{Telling}
 use Rattle.worth.proofs.tell.Given as goal
 
 abbrev pub invariant-loop-i : goal.invariant-loop-i

@@ -1,5 +1,4 @@
 use Rattle.worth.proofs.Telling.{first_on_it}
-use borrow.Author.Rules.{rules}
 use Rattle.worth.proofs.told_at.Goals as goal
 
 pub returns : goal.returns

@@ -3,7 +3,6 @@ use borrow.Author.Tests.{lt-ltb, le-ltb, ne_eqb}
 use Rattle.sheet.specs.Table.{condition_row_by}
 use Rattle.worth.specs.Pass.{is_operand, lowered}
 use Rattle.worth.proofs.Places.{adds_none, adds_two}
-use borrow.Author.Rules.{rules}
 use Rattle.worth.proofs.visit_by.Goals as goal
 
 pub returns-then-kind-ge7 : goal.returns-then-kind-ge7
