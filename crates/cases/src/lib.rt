@@ -3,7 +3,7 @@
 
 #![tactic(auto)]
 
-ghost use Rattle.std.specs.Prelude.{◌<◌, ◌≤◌, length};
+ghost use Rattle.std.specs.Prelude.{◌≡◌, ◌<◌, ◌≤◌, length, take};
 
 use codec::SizeAnswer;
 use sheet::Head;
@@ -91,7 +91,7 @@ pub fn four(file: &mut impl Read) -> usize {
 
 // The next text of that length, at the start of the buffer; nothing is read where it does not fit.
 pub fn read_text(file: &mut impl Read, size: usize, text: &mut [u8]) -> usize
-    ensures { result ≤ length text.new }
+    ensures { (result ≤ length text.new) × (result ≡ length (take result text.new)) }
 {
     if text.len() < size {
         return 0;

@@ -2,7 +2,7 @@
 
 #![tactic(auto)]
 
-ghost use Rattle.std.specs.Prelude.{◌≤◌, length};
+ghost use Rattle.std.specs.Prelude.{◌≡◌, ◌≤◌, length, take};
 
 use std::io::Read;
 
@@ -14,7 +14,7 @@ struct Filled {
 }
 
 fn read_once(input: &mut impl Read, buffer: &mut [u8]) -> Filled
-    ensures { result.size ≤ length buffer.new }
+    ensures { (result.size ≤ length buffer.new) × (result.size ≡ length (take result.size buffer.new)) }
 {
     match input.read(buffer) {
         Ok(size) => Filled {
@@ -30,7 +30,7 @@ fn read_once(input: &mut impl Read, buffer: &mut [u8]) -> Filled
 
 // Reads until the buffer is full, the input ends or a read fails: a pipe may hand its bytes out in pieces.
 fn read_all(input: &mut impl Read, buffer: &mut [u8]) -> Filled
-    ensures { result.size ≤ length buffer.new }
+    ensures { (result.size ≤ length buffer.new) × (result.size ≡ length (take result.size buffer.new)) }
 {
     let mut size = 0;
     while size < buffer.len() {
