@@ -281,8 +281,15 @@ fn split(call: u8, made: bool, mode: u8, row: u8, first: u8, s: &[u8]) -> Seen {
     run(call, made, mode, row, &s[..count], &s[count..])
 }
 
+// In hex, digit by digit: with options, each digit that is no zero in front would cost more.
 fn print(rt: &impl Print, x: usize, end: &str) -> io::Result<()> {
-    print!(rt; "{x:04x}{end}")
+    print!(rt;
+        "{:x}{:x}{:x}{:x}{end}",
+        x / 4096,
+        x / 256 % 16,
+        x / 16 % 16,
+        x % 16
+    )
 }
 
 fn main(rt: HostRuntime) -> io::Result<()> {
