@@ -16,7 +16,7 @@ pub struct Placed {
     pub state: State,
 }
 
-// One step on a record that the function owns and lends: the answer and the record are those of `take_step`, so whoever calls this needs no walk by hand.
+// One step on a record that the function owns and lends: the answer and the record are those of `take_step`.
 pub fn step_lent(s: State, h: Head, ts: &[u8], cs: &[u8], row: usize) -> Placed
     ensures { (result.answer ≡ (step_answer (table_of h ts.now cs.now) s row).answer) × (result.state ≡ (step_answer (table_of h ts.now cs.now) s row).state) }
 {
