@@ -27,7 +27,7 @@ use Rattle.state.specs.declared.StepKind.TheVariants.{Clean}
 use Rattle.moves.specs.Steps.{marks_of, Sized, nodes, turn_at, kind_turned, kind_at, has_step, listed_of, stepped_of}
 use Rattle.moves.specs.Standing.{waiting_of, awaits_of}
 use Rattle.moves.specs.Runs.{Taken}
-use Rattle.moves.specs.Runs.{Run as Steps, done as ended, take as stepping, taken as stepsTaken, last as lastState}
+use Rattle.moves.specs.Runs.{Run as Steps, done as ended, take as stepping, taken as steps_taken, last as last_state}
 use Rattle.moves.proofs.Allowed.{listed_rows_law}
 use Rattle.moves.proofs.Moves.{has_turn, takes_kind, step_kept}
 use Rattle.moves.proofs.Fits.{fits_step}
@@ -251,21 +251,21 @@ module _ (t : Table) (s : State) where
     taken_keeps r ok = subst (Accepted t) (sym (state_is (unrefused a) r)) (stepped r (sym (ok_is (unrefused a) r) ∙ ok))
 
 -- A run of the calls is one of `moves`, with the same steps and the same state after it ...
-pub to_steps : {t : Table} {s : State} → Accepted t s → (G : Run t s) → (R : Steps t s) × (stepsTaken R ≡ taken G) × (lastState R ≡ last G)
-unfolding taken last stepsTaken lastState
+pub to_steps : {t : Table} {s : State} → Accepted t s → (G : Run t s) → (R : Steps t s) × (steps_taken R ≡ taken G) × (last_state R ≡ last G)
+unfolding taken last steps_taken last_state
 to_steps a done = (ended, refl, refl)
 to_steps {t} {s} a (more r m ok G) =
     let e = unrefused t s a in
-    let (R, p, q) = subst (λ (z : State). (R : Steps t z) × (stepsTaken R ≡ taken G) × (lastState R ≡ last G)) (state_is t s e r) (to_steps (taken_keeps t s a r ok) G) in
+    let (R, p, q) = subst (λ (z : State). (R : Steps t z) × (steps_taken R ≡ taken G) × (last_state R ≡ last G)) (state_is t s e r) (to_steps (taken_keeps t s a r ok) G) in
     (stepping r (sym (ok_is t s e r) ∙ ok) R, (λ i. record { row = r; kind = sym (answer_is t s e r) i } ∷ p i), q)
 
 -- ... and the other way
-pub from_steps : {t : Table} {s : State} → Accepted t s → (R : Steps t s) → (G : Run t s) × (taken G ≡ stepsTaken R) × (last G ≡ lastState R)
-unfolding taken last stepsTaken lastState
+pub from_steps : {t : Table} {s : State} → Accepted t s → (R : Steps t s) → (G : Run t s) × (taken G ≡ steps_taken R) × (last G ≡ last_state R)
+unfolding taken last steps_taken last_state
 from_steps a ended = (done, refl, refl)
 from_steps {t} {s} a (stepping r h R) =
     let e = unrefused t s a in
-    let (G, p, q) = subst (λ (z : State). (G : Run t z) × (taken G ≡ stepsTaken R) × (last G ≡ lastState R)) (sym (state_is t s e r)) (from_steps (stepped t s a r h) R) in
+    let (G, p, q) = subst (λ (z : State). (G : Run t z) × (taken G ≡ steps_taken R) × (last G ≡ last_state R)) (sym (state_is t s e r)) (from_steps (stepped t s a r h) R) in
     (more r ((row_listed t s e r).1 h) (ok_is t s e r ∙ h) G, (λ i. record { row = r; kind = answer_is t s e r i } ∷ p i), q)
 
 -- a run leads to a state of the table

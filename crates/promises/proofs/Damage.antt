@@ -130,12 +130,12 @@ module _ (t : Table) (row : ℕ) (lent : List ℕ) (answered : (size_values (dam
   abbrev c : ℕ
   c = condition_at t row
 
-  pub its-failure :
+  pub its_failure :
       Offends (eval_in t c) (its_links t c) (number_at t.evaluation t.m t.conditions c) (named t c)
       × ((x l : ℕ) → Offends (eval_in t c) (its_links t c) x l → number_at t.evaluation t.m t.conditions c ≤ x)
       × ((l : ℕ) → Offends (eval_in t c) (its_links t c) (number_at t.evaluation t.m t.conditions c) l → named t c ≤ l)
   unfolding showable named
-  its-failure = (number_offends t c (and_l _ _ (and_r (is_join (row_at t.terms row)) _ (and_r (ltb row t.n) _ shows))), none_smaller t c, none_lower t c)
+  its_failure = (number_offends t c (and_l _ _ (and_r (is_join (row_at t.terms row)) _ (and_r (ltb row t.n) _ shows))), none_smaller t c, none_lower t c)
 
   fits : length (shown_sheet t row) ≤ length lent
   unfolding AllHold

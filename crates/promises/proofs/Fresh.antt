@@ -8,7 +8,7 @@ use Rattle.sheet.specs.Rules.{refusal_of}
 use Rattle.state.specs.declared.State.{State}
 use Rattle.moves.specs.Steps.{start_of}
 use Rattle.moves.specs.Runs.{Taken, struck, rows_of, Alike}
-use Rattle.moves.specs.Runs.{Run as Steps, taken as stepsTaken, last as lastState}
+use Rattle.moves.specs.Runs.{Run as Steps, taken as steps_taken, last as last_state}
 use Rattle.moves.proofs.Fits.{fresh_sized, fresh_fits}
 use Rattle.sheet_engine.specs.declared.VerdictAnswer.TheVariants.{Pass}
 use Rattle.sheet_engine.specs.declared.Started.{Started}
@@ -33,11 +33,11 @@ module _ (t : Table) (accepted : (refusal_of t).number ≡ 0) (mode : ℕ) (h : 
   fresh_accepted = subst (Accepted t) (sym is_fresh) fresh_state
 
   -- a run from there is one of `moves`, and the other way
-  pub begun : (G : Run t (fresh_in t mode)) → (R : Steps t (start_of t mode)) × (stepsTaken R ≡ taken G) × (lastState R ≡ last G)
-  begun G = subst (λ (z : State). (R : Steps t z) × (stepsTaken R ≡ taken G) × (lastState R ≡ last G)) is_fresh (to_steps fresh_accepted G)
+  pub begun : (G : Run t (fresh_in t mode)) → (R : Steps t (start_of t mode)) × (steps_taken R ≡ taken G) × (last_state R ≡ last G)
+  begun G = subst (λ (z : State). (R : Steps t z) × (steps_taken R ≡ taken G) × (last_state R ≡ last G)) is_fresh (to_steps fresh_accepted G)
 
-  pub run_of : (R : Steps t (start_of t mode)) → (G : Run t (fresh_in t mode)) × (taken G ≡ stepsTaken R) × (last G ≡ lastState R)
-  run_of R = subst (λ (z : State). (G : Run t z) × (taken G ≡ stepsTaken R) × (last G ≡ lastState R)) (sym is_fresh) (from_steps fresh_state R)
+  pub run_of : (R : Steps t (start_of t mode)) → (G : Run t (fresh_in t mode)) × (taken G ≡ steps_taken R) × (last G ≡ last_state R)
+  run_of R = subst (λ (z : State). (G : Run t z) × (taken G ≡ steps_taken R) × (last G ≡ last_state R)) (sym is_fresh) (from_steps fresh_state R)
 
 module _ (t : Table) (pass : verdict_answer t ≡ Pass) where
   pub passed : (refusal_of t).number ≡ 0

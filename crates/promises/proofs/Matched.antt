@@ -14,7 +14,7 @@ use Rattle.codec.specs.declared.SizeAnswer.{SizeAnswer}
 use Rattle.state.specs.declared.State.{State}
 use Rattle.state.specs.declared.StepKind.{StepKind}
 use Rattle.moves.specs.Steps.{kind_at, listed_of}
-use Rattle.moves.specs.Runs.{Run as Steps, taken as stepsTaken}
+use Rattle.moves.specs.Runs.{Run as Steps, taken as steps_taken}
 use Rattle.moves.proofs.Allowed.{listed_rows_law}
 use Rattle.compacted.specs.Compacted.{rank, compacted, restarted, reranked}
 use Rattle.compacted.proofs.Compacted.{compacted_meets, compacted_fits}
@@ -63,7 +63,7 @@ module _ (t : Table) (s : State) (a : Accepted t s) where
     same_links l = link_is t' z' b' l ∙ (ap (λ (v : Links). digit (v l)) f.sets ∙ sym (link_is t z b l))
 
   -- runs of the calls that run as two of `moves` do
-  matched : (G : Run t' s') (H : Run t s) (R : Steps t s) → stepsTaken R ≡ taken H → taken G ≡ map (reranked (rank t s)) (taken H) → Follows t g s (last H) (last G) → Matches G H
+  matched : (G : Run t' s') (H : Run t s) (R : Steps t s) → steps_taken R ≡ taken H → taken G ≡ map (reranked (rank t s)) (taken H) → Follows t g s (last H) (last G) → Matches G H
   matched G H R p e f =
       let b = run_keeps a H in
       let b' = run_keeps compacted_accepted G in
