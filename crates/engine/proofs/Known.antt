@@ -90,6 +90,9 @@ pub record Knows (t : Table) (s : State) (seen vals : List ℕ) : Type 0 where
   pub seen_shows : Shows (asked_at 0 (nodes t) (marks_of s)) t.n seen
   pub vals_known : Evaluated t.evaluation t.conditions (links_of s) t.k vals
 
+pub knows : {t : Table} {s : State} {seen vals : List ℕ} → Shows (asked_at 0 (nodes t) (marks_of s)) t.n seen → Evaluated t.evaluation t.conditions (links_of s) t.k vals → Knows t s seen vals
+knows g h = record { seen_shows = g; vals_known = h }
+
 same_kind : (r mode : ℕ) (N : Row) (f g : ℕ → ℕ) → ((q c : ℕ) → N ≡ PREFIX (join q) c → f q ≡ g q) → row_kind r mode N f ≡ row_kind r mode N g
 unfolding row_kind prefix_kind
 same_kind r mode NIL f g h = refl

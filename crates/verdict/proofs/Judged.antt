@@ -2,12 +2,11 @@
 use mathlib.Core.Path.{◌≡◌}
 use Rattle.sheet.specs.Table.{Table}
 use Rattle.sheet.specs.Rules.{refusal_of}
-use Rattle.sheet.proofs.Accepted.{meets, well_formed, narrow_joins}
+use Rattle.sheet.proofs.Accepted.{Meets, meets, well_formed, narrow_joins}
 use Rattle.verdict.specs.Verdict.{Judged}
 
-pub accepted_judged : (t : Table) → (refusal_of t).number ≡ 0 → Judged t
-accepted_judged t e =
-    let g = meets t e in
+pub meets_judged : (t : Table) → Meets t → Judged t
+meets_judged t g =
     let w = well_formed t g in
     record {
       lent_terms = w.terms_lent;
@@ -19,3 +18,6 @@ accepted_judged t e =
       link_below_m = w.links;
       eight_links = narrow_joins t g;
     }
+
+pub accepted_judged : (t : Table) → (refusal_of t).number ≡ 0 → Judged t
+accepted_judged t e = meets_judged t (meets t e)
