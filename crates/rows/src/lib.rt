@@ -1,6 +1,8 @@
-// The children of a term row, by its bytes.
+// The children of a term row, and what a condition row is, by their bytes.
 
 #![tactic(auto)]
+
+pub mod condition;
 
 ghost use Rattle.std.specs.Prelude.{◌≡◌, ◌+◌, ◌*◌, ◌≤◌, length};
 ghost use Rattle.steps.specs.Rows.{first_of, second_of};
