@@ -1,1 +1,2 @@
+pub mod Term
 pub mod Conditions
