@@ -3,20 +3,19 @@
 #![tactic(auto)]
 
 ghost use Rattle.std.specs.Prelude.{◌≡◌, ◌+◌, ◌*◌, ◌<◌, ◌≤◌, length, get_or};
-ghost use Rattle.std.specs.Int.Bits.{bit_or};
 ghost use Rattle.laws.specs.Up.{Filled};
 ghost use Rattle.laws.specs.Listed.{listed};
-ghost use Rattle.sheet.specs.Table.{condition_row_by, condition_row_at};
+ghost use Rattle.sheet.specs.Table.{condition_row_at};
 ghost use Rattle.reach.specs.Masks.{has_bit, link_bit, within, mask_by, mask_at};
 
+use rows::condition::{ConditionRow, condition_row};
+
 // A link as a bit; none from 64 on.
+#[tactic(auto, unfolding(crate::specs::Masks::link_bit))]
 pub fn bit(l: u8) -> u64
     ensures { result ≡ link_bit l }
 {
-    if 64 <= l {
-        return 0;
-    }
-    1 << l
+    if l < 64 { 1 << l } else { 0 }
 }
 
 // The mask of a row, from a table of masks.
@@ -26,30 +25,17 @@ pub fn mask_of(masks: &[u64; 256], row: u8) -> u64
     masks[row as usize]
 }
 
-fn both(masks: &[u64; 256], a: u8, b: u8) -> u64
-    ensures { result ≡ bit_or (get_or masks.now a 0) (get_or masks.now b 0) }
-{
-    mask_of(masks, a) | mask_of(masks, b)
-}
-
-// The mask of a row, by its bytes.
-fn mask_by(kind: u8, a: u8, b: u8, masks: &[u64; 256]) -> u64
-    ensures { result ≡ mask_by (condition_row_by kind a b) (λ j. get_or masks.now j 0) }
-{
-    match kind {
-        0 => 0,
-        1 => 0,
-        2 => bit(a),
-        _ => { if kind < 7 { both(masks, a, b) } else { 0 } }
-    }
-}
-
+// The mask of a row, from those of other rows.
+#[tactic(auto, unfolding(crate::specs::Masks::mask_by, rows::specs::Conditions::row_of))]
 pub fn step(cs: &[u8], row: usize, masks: &[u64; 256]) -> u64
     requires { row * 4 + 4 ≤ length cs.now }
     ensures { result ≡ mask_by (condition_row_at cs.now row) (λ j. get_or masks.now j 0) }
 {
-    let at = row * 4;
-    mask_by(cs[at], cs[at + 1], cs[at + 2], masks)
+    match condition_row(cs, row) {
+        ConditionRow::False | ConditionRow::True => 0,
+        ConditionRow::Link(l) => bit(l),
+        ConditionRow::Operation(_, a, b) => mask_of(masks, a) | mask_of(masks, b),
+    }
 }
 
 // The links that each of the first k rows reaches, in rising order of the rows.
@@ -58,11 +44,8 @@ pub fn masks(cs: &[u8], k: usize) -> [u64; 256]
     ensures { Filled 0 (mask_at cs.now) k result }
 {
     let mut table = [0; 256];
-    let mut i = 0;
-    while i < k {
-        let x = step(cs, i, &table);
-        table[i] = x;
-        i += 1;
+    for i in 0..k {
+        table[i] = step(cs, i, &table);
     }
     table
 }

@@ -1,12 +1,8 @@
 use mathlib.Core.Path.{◌≡◌}
-use Prim.Native.Nat.{◌≤◌, ◌-◌}
 use lib.ListN.{length}
 use Rattle.laws.specs.Up.{Filled}
 use Rattle.reach.specs.Masks.{mask_at}
 use Rattle.reach.proofs.masks.Given as goal
 
 abbrev pub invariant-loop-i : goal.invariant-loop-i
-invariant-loop-i l = (l.i ≤ l.k) × ((length l.table ≡ 256) × Filled 0 (mask_at l.cs) l.i l.table)
-
-abbrev pub decreases-loop-i : goal.decreases-loop-i
-decreases-loop-i l = l.k - l.i
+invariant-loop-i l = (length l.table ≡ 256) × Filled 0 (mask_at l.cs) l.i l.table

@@ -1,4 +1,0 @@
-use Rattle.reach.proofs.both.Goals as goal
-
-pub returns : goal.returns
-returns c = cc

@@ -1,6 +1,0 @@
-use Rattle.sheet.specs.Table.{condition_row_at}
-use Rattle.reach.proofs.step.Goals as goal
-
-pub returns : goal.returns
-unfolding condition_row_at
-returns c = c.mask_by.ensures
