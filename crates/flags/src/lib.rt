@@ -12,10 +12,8 @@ pub fn count(flags: &[u8; 256], n: usize) -> usize
     ensures { result ≡ length (listed (flagged flags.now) 0 n) }
 {
     let mut found: u16 = 0;
-    let mut i = 0;
-    while i < n {
+    for i in 0..n {
         found += (flags[i] == 1) as u16;
-        i += 1;
     }
     found as usize
 }
@@ -26,14 +24,10 @@ fn write(flags: &[u8; 256], n: usize, out: &mut [u8])
     ensures { out.new ≡ listed (flagged flags.now) 0 n ++ drop (length (listed (flagged flags.now) 0 n)) out.old }
 {
     let mut found = 0;
-    let mut i = 0;
-    while i < n {
+    for i in 0..n {
         if flags[i] == 1 {
             out[found] = i as u8;
             found += 1;
-            i += 1;
-        } else {
-            i += 1;
         }
     }
 }

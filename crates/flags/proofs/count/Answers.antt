@@ -5,13 +5,13 @@ use Rattle.flags.specs.Flags.{flagged}
 use Rattle.flags.proofs.count.Goals as goal
 
 pub loop-i-init : goal.loop-i-init
-loop-i-init c = (omega arith, (omega arith, counted_none _ _))
+loop-i-init c = (omega arith, counted_none _ _)
 
 pub overflow_add-found : goal.overflow_add-found
 overflow_add-found c = let l = c.loop-i in omega (arith, bit_small (flagged c.args.flags.now l.i))
 
 pub loop-i-preserved : goal.loop-i-preserved
-loop-i-preserved c = let l = c.loop-i in (omega arith, (omega (arith, bit_small (flagged c.args.flags.now l.i)), counted_next _ _ l.i l.found c.loop-i-test.true l.invariant.1.1))
+loop-i-preserved c = let l = c.loop-i in (omega (arith, bit_small (flagged c.args.flags.now l.i)), counted_next _ _ l.i l.found c.loop-i-test.true l.invariant.1)
 
 pub returns : goal.returns
-returns c = counted_end _ _ _ _ c.loop-i-test.false c.loop-i.invariant.1.1
+returns c = counted_end _ _ _ _ c.loop-i-test.false c.loop-i.invariant.1

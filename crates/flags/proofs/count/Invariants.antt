@@ -1,10 +1,7 @@
-use Prim.Native.Nat.{◌≤◌, ◌-◌}
+use Prim.Native.Nat.{◌≤◌}
 use Rattle.laws.proofs.Listed.{Counted}
 use Rattle.flags.specs.Flags.{flagged}
 use Rattle.flags.proofs.count.Given as goal
 
 abbrev pub invariant-loop-i : goal.invariant-loop-i
-invariant-loop-i l = (l.i ≤ l.n) × ((l.found ≤ l.i) × Counted (flagged l.flags) l.n l.i l.found)
-
-abbrev pub decreases-loop-i : goal.decreases-loop-i
-decreases-loop-i l = l.n - l.i
+invariant-loop-i l = (l.found ≤ l.i) × Counted (flagged l.flags) l.n l.i l.found
