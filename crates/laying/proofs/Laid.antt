@@ -1,12 +1,12 @@
 -- The rows of a test's numbers are put into an array one after another, four bytes a row. Assumes nothing.
 use Prim.Native.Nat.{ℕ, ◌+◌, ◌*◌, ◌<◌, ◌≤◌}
-use mathlib.Core.Path.{◌≡◌, refl, sym, ◌∙◌, ap, ap₂}
+use mathlib.Core.Path.{◌≡◌, refl, sym, ◌∙◌, ap}
 use mathlib.Core.Bool.{Bool, true, false}
 use mathlib.Core.List.{List, ◌++◌, append_assoc, append-nil}
 use native.Mathlib.Omega.{arith}
 use native.Mathlib.Nat.{sub-zero}
-use lib.ListN.{get_or, length, take, set}
-use lib.Seq.{paste, paste-zero, paste-suc, length-paste, take-paste, take_all}
+use lib.ListN.{length, take}
+use lib.Seq.{paste, length-paste, take-paste, take_all}
 use Rattle.laws.specs.Tests.{bit}
 use Rattle.laws.specs.Sums.{count}
 use Rattle.laws.specs.Listed.{listed}
@@ -14,15 +14,6 @@ use Rattle.laws.proofs.Sums.{count_zero, count_more}
 use Rattle.laws.proofs.Listed.{left, left_hit, left_miss, left_end}
 use Rattle.layout.specs.Bytes.{laid}
 use Rattle.laying.specs.LaidIn.{LaidIn}
-
--- four stores are a copy of four bytes
-pub paste_four : (d : List ℕ) (at : ℕ) (s : List ℕ) → at + 4 ≤ length d → length s ≡ 4 → set (set (set (set d at (get_or s 0 0)) (at + 1) (get_or s 1 0)) (at + 2) (get_or s 2 0)) (at + 3) (get_or s 3 0) ≡ paste d at s 4
-paste_four d at s h l =
-    let none : at ≡ at + 0 = omega arith in
-    let one : set d at (get_or s 0 0) ≡ paste d at s 1 = ap₂ (λ (e : List ℕ) (k : ℕ). set e k (get_or s 0 0)) (paste-zero d at s) none ∙ paste-suc d at s 0 0 (omega arith) (omega arith) in
-    let two : set (set d at (get_or s 0 0)) (at + 1) (get_or s 1 0) ≡ paste d at s 2 = ap (λ (e : List ℕ). set e (at + 1) (get_or s 1 0)) one ∙ paste-suc d at s 1 0 (omega arith) (omega arith) in
-    ap (λ (e : List ℕ). set (set e (at + 2) (get_or s 2 0)) (at + 3) (get_or s 3 0)) two ∙
-    (ap (λ (e : List ℕ). set e (at + 3) (get_or s 3 0)) (paste-suc d at s 2 0 (omega arith) (omega arith)) ∙ paste-suc d at s 3 0 (omega arith) (omega arith))
 
 -- one row more: it stands behind the others, and nothing gets longer
 module _ (out : List ℕ) (k : ℕ) (row : List ℕ) (room : k * 4 + 4 ≤ length out) (four : length row ≡ 4) where

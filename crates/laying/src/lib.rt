@@ -13,10 +13,7 @@ pub fn put(out: &mut [u8], at: usize, row: [u8; 4])
     requires { (length row ≡ 4) × (at + 4 ≤ length out.old) }
     ensures { out.new ≡ paste out.old at row 4 }
 {
-    out[at] = row[0];
-    out[at + 1] = row[1];
-    out[at + 2] = row[2];
-    out[at + 3] = row[3];
+    out[at..at + 4].copy_from_slice(&row);
 }
 
 // The rank of each row: how many are flagged before it.
@@ -26,11 +23,9 @@ pub fn ranks(flags: &[u8; 256], n: usize) -> [u8; 256]
 {
     let mut table = [0; 256];
     let mut found = 0;
-    let mut i = 0;
-    while i < n {
+    for i in 0..n {
         table[i] = found as u8;
         found += (flags[i] == 1) as usize;
-        i += 1;
     }
     table
 }
