@@ -2,6 +2,7 @@
 use Prim.Native.Nat.{ℕ, ◌≤◌}
 use mathlib.Core.Path.{◌≡◌, refl, sym, ◌∙◌, ap}
 use mathlib.Core.List.{List, [], ◌∷◌}
+use Rattle.std.specs.Prelude.{Ok, Err}
 use native.Mathlib.Omega.{arith}
 use borrow.Author.Tests.{le-leb, leb-true}
 use Rattle.laws.specs.Checks.{Holds, checked, AllHold}
@@ -10,11 +11,11 @@ use Rattle.sheet.specs.declared.Refusal.{Refusal}
 use Rattle.sheet.specs.Table.{Table}
 use Rattle.sheet.specs.Rules.{refuse}
 use Rattle.sheet.proofs.Accepted.{none_refused}
-use Rattle.sheet.proofs.Refusals.{without, refused_by}
+use Rattle.sheet.proofs.Refusals.{without, refused_by, told_refused, told_accepted}
 use Rattle.state.specs.declared.State.{State}
 use Rattle.moves.specs.Steps.{mode_of, marks_of}
 use Rattle.moves.specs.Fits.{mode_check, marks_fit, links_fit, waits_fit, clear_fit, counts_fit, fit_checks, Fits}
-use Rattle.fitting.specs.Checks.{from_e, from_d, from_c, from_b, from_a, state_checks}
+use Rattle.fitting.specs.Checks.{from_e, from_d, from_c, from_b, from_a, state_checks, fitted}
 
 -- the checks of a table's state are the mode's and those of fitting
 pub state_checks_law : (t : Table) (s : State) → state_checks t.m t.n t.terms s ≡ mode_check s.mode ∷ fit_checks t s
@@ -43,3 +44,12 @@ module _ {A : Type 0} (answer : ℕ → ℕ → A) (good : A) (m n : ℕ) (ts : 
   pub state_refused : (r.number ≡ 0 → ⊥) → answer r.number r.place ≡ checked answer good (state_checks m n ts s)
   unfolding without
   state_refused h = rw told (refused_by answer good (state_checks m n ts s) refl (λ e. h (rw told e)))
+
+-- what fit answers, by number and place
+module _ (m n : ℕ) (ts : List ℕ) (s : State) where
+  pub fitted_refused : (e : Refusal) → fitted m n ts s ≡ Err e → (e ≡ checked refuse (refuse 0 0) (state_checks m n ts s)) × (e.number ≡ 0 → ⊥)
+  unfolding without
+  fitted_refused e h = told_refused tt (state_checks m n ts s) refl e h
+
+  pub fitted_accepted : (u : Unit {0}) → fitted m n ts s ≡ Ok u → (checked refuse (refuse 0 0) (state_checks m n ts s)).number ≡ 0
+  fitted_accepted u h = told_accepted tt (state_checks m n ts s) u h

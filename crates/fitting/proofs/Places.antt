@@ -1,6 +1,7 @@
 -- The rule of a check at one place, as the code answers it. Assumes nothing.
 use Prim.Native.Nat.{ℕ, ◌+◌, ◌-◌, ◌<◌, ◌≤◌}
 use mathlib.Core.Path.{◌≡◌, refl, sym, ◌∙◌, ap}
+use Rattle.std.specs.Prelude.{Ok}
 use mathlib.Core.Bool.{Bool, true, false, ◌&&◌, not, cond}
 use mathlib.Core.List.{List, []}
 use mathlib.Core.Logic.{by_cases, ◌↔◌}
@@ -18,7 +19,7 @@ use Rattle.calculus.specs.Places.{Mode}
 use Rattle.steps.specs.Marks.{Marks}
 use Rattle.steps.specs.InFront.{waiting}
 use Rattle.sheet.specs.Table.{row_at}
-use Rattle.sheet.specs.Rules.{refuse}
+use Rattle.sheet.specs.Rules.{no}
 use Rattle.sheet.proofs.Refusals.{one_place_fails, one_place_holds}
 use Rattle.state.specs.declared.State.{State}
 use Rattle.moves.specs.Steps.{marks_of, links_of, remainder_in, acts_of, unset_of}
@@ -83,9 +84,9 @@ module _ (m n : ℕ) (ts : List ℕ) (s : State) (p : ℕ) (clear : p ≡ place_
   unfolding counts_ok
   counts_read = rw (acts, unset) refl
 
-  pub counts_right : (eqb s.acts a && eqb s.unset u) ≡ true → refuse 0 0 ≡ checked refuse (refuse 0 0) (from_d m n ts s)
+  pub counts_right : (eqb s.acts a && eqb s.unset u) ≡ true → Ok (tt {0}) ≡ checked no (Ok tt) (from_d m n ts s)
   unfolding checked
-  counts_right e = one_place_holds refuse (refuse 0 0) (counts_fit m ts n s) [] refl (counts_read ∙ e) ∙ checked_holds refuse (refuse 0 0) (clear_fit ts n (marks_of s) s.links) (from_e m n ts s) p clear none
+  counts_right e = one_place_holds no (Ok tt) (counts_fit m ts n s) [] refl (counts_read ∙ e) ∙ checked_holds no (Ok tt) (clear_fit ts n (marks_of s) s.links) (from_e m n ts s) p clear none
 
-  pub counts_wrong : (eqb s.acts a && eqb s.unset u) ≡ false → refuse 10 0 ≡ checked refuse (refuse 0 0) (from_d m n ts s)
-  counts_wrong e = one_place_fails refuse (refuse 0 0) (counts_fit m ts n s) [] (omega arith) (counts_read ∙ e) ∙ checked_holds refuse (refuse 0 0) (clear_fit ts n (marks_of s) s.links) (from_e m n ts s) p clear none
+  pub counts_wrong : (eqb s.acts a && eqb s.unset u) ≡ false → no 10 0 ≡ checked no (Ok (tt {0})) (from_d m n ts s)
+  counts_wrong e = one_place_fails no (Ok tt) (counts_fit m ts n s) [] (omega arith) (counts_read ∙ e) ∙ checked_holds no (Ok tt) (clear_fit ts n (marks_of s) s.links) (from_e m n ts s) p clear none

@@ -1,7 +1,9 @@
 -- The checks of a state against a table, 9 and 10, in order; `from_c` is the list from 10 (c) on.
-use Rattle.std.specs.Prelude.{ℕ, List, [], ◌∷◌, eqb}
-use Rattle.laws.specs.Checks.{Check}
+use Rattle.std.specs.Prelude.{ℕ, List, [], ◌∷◌, Result, Ok, eqb}
+use Rattle.laws.specs.Checks.{Check, checked}
 use Rattle.steps.specs.Marks.{Marks}
+use Rattle.sheet.specs.declared.Refusal.{Refusal}
+use Rattle.sheet.specs.Rules.{no}
 use Rattle.state.specs.declared.State.{State}
 use Rattle.moves.specs.Steps.{mode_of, marks_of}
 use Rattle.moves.specs.Fits.{mode_check, marks_fit, links_fit, waits_fit, clear_fit, counts_fit}
@@ -24,6 +26,10 @@ module _ (m n : ℕ) (ts : List ℕ) (s : State) where
 
   abbrev pub state_checks : List Check
   state_checks = mode_check s.mode ∷ from_a
+
+  -- what is answered to a state: the first check that fails, or that none does
+  abbrev pub fitted : Result (Unit {0}) Refusal
+  fitted = checked no (Ok tt) state_checks
 
 -- 10 (a) from row n on: "are 0 from row n on"
 abbrev pub rest_fit : ℕ → Marks → Check

@@ -2,26 +2,21 @@
 
 #![tactic(auto)]
 
-ghost use Rattle.std.specs.Prelude.{◌≡◌, ◌↔◌, ◌+◌, ◌*◌, ◌<◌, ◌≤◌, true, cond, not, eqb, ltb, leb, length, get_or};
+ghost use Rattle.std.specs.Prelude.{◌≡◌, ◌↔◌, ◌+◌, ◌*◌, ◌<◌, ◌≤◌, Ok, true, cond, not, eqb, ltb, leb, length, get_or};
 ghost use Rattle.laws.specs.Tests.{or};
 ghost use Rattle.laws.specs.Checks.{Holds, place_of, checked};
 ghost use Rattle.steps.specs.InFront.{waiting};
 ghost use Rattle.sheet.specs.Table.{row_at};
 ghost use Rattle.sheet.specs.Accepted.{RowsLent};
-ghost use Rattle.sheet.specs.Rules.{refuse};
+ghost use Rattle.sheet.specs.Rules.{no};
 ghost use Rattle.moves.specs.Steps.{mode_of};
 ghost use Rattle.moves.specs.Fits.{suits, clear_row, mode_check, marks_fit, links_fit, waits_fit, clear_fit};
 ghost use Rattle.front.specs.Asked.{ShowsLive};
-ghost use Rattle.fitting.specs.Checks.{rest_fit, from_d, from_c, from_b, from_a, state_checks};
+ghost use Rattle.fitting.specs.Checks.{rest_fit, from_d, from_c, from_b, from_a, fitted};
 
+use rows::term::TermRow;
 use sheet::Refusal;
 use state::State;
-
-fn wide(x: u8) -> usize
-    ensures { result ≡ x }
-{
-    x as usize
-}
 
 // 9: the mode is 0 or 1.
 pub fn mode_ok(mode: u8) -> bool
@@ -31,16 +26,16 @@ pub fn mode_ok(mode: u8) -> bool
 }
 
 // (a) the mark suits its row and the mode.
+#[tactic(auto, unfolding(laws::specs::Tests::or, moves::specs::Fits::suits, moves::specs::Fits::suits_prefix, moves::specs::Fits::suits_branch))]
 fn suits(mode: u8, ts: &[u8], row: usize, mark: u8) -> bool
     requires { row * 4 + 4 ≤ length ts.now }
     ensures { result ≡ suits (mode_of mode) (row_at ts.now row) mark }
 {
-    match ts[row * 4] {
-        1 => mark <= 1,
-        2 => mark <= 1,
-        3 => (mark <= 1) | ((mark == 4) & front::cleans(mode)),
-        4 => (mark == 0) | ((mark == 2) | (mark == 3)),
-        _ => mark == 0,
+    match rows::term::term_row(ts, row) {
+        TermRow::Act { .. } | TermRow::Out { .. } => mark <= 1,
+        TermRow::Join { .. } => (mark <= 1) | ((mark == 4) & front::cleans(mode)),
+        TermRow::Pick { .. } => (mark == 0) | ((mark == 2) | (mark == 3)),
+        TermRow::Nil | TermRow::Flow { .. } => mark == 0,
     }
 }
 
@@ -55,19 +50,19 @@ fn link_ok(m: usize, link: usize, value: u8) -> bool
 }
 
 // (c) the row waits.
+#[tactic(auto, unfolding(steps::specs::InFront::waiting, steps::specs::InFront::undecided, steps::specs::Marks::open_branches))]
 fn waiting(ts: &[u8], row: usize, mark: u8) -> bool
     requires { row * 4 + 4 ≤ length ts.now }
     ensures { result ≡ waiting (row_at ts.now row) mark }
 {
-    match ts[row * 4] {
-        1 => front::waits(mark),
-        2 => front::waits(mark),
-        3 => front::waits(mark),
-        4 => front::undecided(mark),
-        _ => true,
+    match rows::term::term_row(ts, row) {
+        TermRow::Act { .. } | TermRow::Out { .. } | TermRow::Join { .. } => front::waits(mark),
+        TermRow::Pick { .. } => front::undecided(mark),
+        TermRow::Nil | TermRow::Flow { .. } => true,
     }
 }
 
+#[tactic(auto, unfolding(laws::specs::Tests::or))]
 fn wait_ok(held: u8, ts: &[u8], row: usize, mark: u8) -> bool
     requires { row * 4 + 4 ≤ length ts.now }
     ensures { result ≡ or (not (eqb held 1)) (waiting (row_at ts.now row) mark) }
@@ -80,28 +75,30 @@ fn wait_ok(held: u8, ts: &[u8], row: usize, mark: u8) -> bool
 
 // The byte of a link; 0 from link 64 on.
 fn link_byte(links: &[u8; 64], link: u8) -> u8
-    requires { length links.now ≡ 64 }
     ensures { result ≡ get_or links.now link 0 }
 {
-    if link < 64 {
-        return links[link as usize];
-    }
-    0
+    links.get(link as usize).copied().unwrap_or(0)
 }
 
 // (d) a waiting OUT has its link unset.
+#[tactic(auto, unfolding(laws::specs::Tests::or, moves::specs::Fits::clear_row, moves::specs::Fits::clear_prefix))]
 fn clear_row(ts: &[u8], row: usize, mark: u8, links: &[u8; 64]) -> bool
-    requires { (row * 4 + 4 ≤ length ts.now) × (length links.now ≡ 64) }
+    requires { row * 4 + 4 ≤ length ts.now }
     ensures { result ≡ clear_row (row_at ts.now row) mark links.now }
 {
-    match ts[row * 4] {
-        2 => !front::waits(mark) | (link_byte(links, ts[row * 4 + 1]) == 0),
-        _ => true,
+    match rows::term::term_row(ts, row) {
+        TermRow::Out { link, .. } => !front::waits(mark) | (link_byte(links, link) == 0),
+        TermRow::Nil
+        | TermRow::Act { .. }
+        | TermRow::Join { .. }
+        | TermRow::Pick { .. }
+        | TermRow::Flow { .. } => true,
     }
 }
 
+#[tactic(auto, unfolding(laws::specs::Tests::or))]
 fn clear_ok(live: u8, ts: &[u8], row: usize, mark: u8, links: &[u8; 64]) -> bool
-    requires { (row * 4 + 4 ≤ length ts.now) × (length links.now ≡ 64) }
+    requires { row * 4 + 4 ≤ length ts.now }
     ensures { result ≡ or (not (eqb live 1)) (clear_row (row_at ts.now row) mark links.now) }
 {
     if live == 1 {
@@ -115,10 +112,8 @@ fn unmarked_from(marks: &[u8; 256], n: usize) -> bool
     ensures { (result ≡ true) ↔ Holds (rest_fit n (λ k. get_or marks.now k 0)) }
 {
     let mut none = true;
-    let mut row = n;
-    while row < 256 {
+    for row in n..256 {
         none = none & (marks[row] == 0);
-        row += 1;
     }
     none
 }
@@ -131,14 +126,12 @@ fn bad_rest(marks: &[u8; 256], n: usize) -> usize
     if unmarked_from(marks, n) {
         return 256;
     }
-    let mut row = n;
-    while row < 256 {
+    for row in n..256 {
         if marks[row] != 0 {
             return row;
         }
-        row += 1;
     }
-    row
+    256
 }
 
 // 10 (a): the lowest row whose mark does not suit.
@@ -146,12 +139,10 @@ fn bad_mark(mode: u8, ts: &[u8], n: usize, marks: &[u8; 256]) -> usize
     requires { (n * 4 ≤ length ts.now) × (n ≤ 256) }
     ensures { result ≡ place_of (marks_fit ts.now n (mode_of mode) (λ k. get_or marks.now k 0)) }
 {
-    let mut row = 0;
-    while row < n {
+    for row in 0..n {
         if !suits(mode, ts, row, marks[row]) {
             return row;
         }
-        row += 1;
     }
     bad_rest(marks, n)
 }
@@ -160,14 +151,12 @@ fn bad_mark(mode: u8, ts: &[u8], n: usize, marks: &[u8; 256]) -> usize
 fn bad_link(m: usize, links: &[u8; 64]) -> usize
     ensures { result ≡ place_of (links_fit m links.now) }
 {
-    let mut link = 0;
-    while link < 64 {
-        if !link_ok(m, link, links[link]) {
+    for (link, value) in links.iter().enumerate() {
+        if !link_ok(m, link, *value) {
             return link;
         }
-        link += 1;
     }
-    link
+    64
 }
 
 // 10 (c): the lowest row that should wait and does not.
@@ -176,14 +165,12 @@ fn bad_wait(ts: &[u8], n: usize, marks: &[u8; 256]) -> usize
     ensures { result ≡ place_of (waits_fit ts.now n (λ k. get_or marks.now k 0)) }
 {
     let held = front::ask(front::HELD, ts, n, marks);
-    let mut row = 0;
-    while row < n {
+    for row in 0..n {
         if !wait_ok(held[row], ts, row, marks[row]) {
             return row;
         }
-        row += 1;
     }
-    row
+    n
 }
 
 // 10 (d): the lowest OUT row of the remainder whose link is set, from the rows that are live.
@@ -194,90 +181,85 @@ fn bad_clear<'a>(
     links: &'a [u8; 64],
     live: &[u8; 256],
 ) -> usize
-    requires { ((n ≤ 256) × (n * 4 ≤ length ts.now)) × ((length links.now ≡ 64) × ShowsLive ts.now n (λ k. get_or marks.now k 0) live.now) }
+    requires { ((n ≤ 256) × (n * 4 ≤ length ts.now)) × ShowsLive ts.now n (λ k. get_or marks.now k 0) live.now }
     ensures { result ≡ place_of (clear_fit ts.now n (λ k. get_or marks.now k 0) links.now) }
 {
-    let mut row = 0;
-    while row < n {
+    for row in 0..n {
         if !clear_ok(live[row], ts, row, marks[row], links) {
             return row;
         }
-        row += 1;
     }
-    row
+    n
 }
 
 // Checks 10 (d) and (e), the last: the rows that are live are made once for both.
-fn fit_clear(m: usize, n: usize, ts: &[u8], s: State) -> Refusal
+fn fit_clear(m: usize, n: usize, ts: &[u8], s: State) -> Result<(), Refusal>
     requires { (m ≤ 64) × RowsLent ts.now n }
-    ensures { result ≡ checked refuse (refuse 0 0) (from_d m n ts.now s) }
+    ensures { result ≡ checked no (Ok tt) (from_d m n ts.now s) }
 {
     let live = front::ask(front::LIVE, ts, n, &s.marks);
     let place = bad_clear(ts, n, &s.marks, &s.links, &live);
     if place < n {
-        return Refusal { number: 10, place };
+        return Err(Refusal { number: 10, place });
     }
     let acts = counts::acts(ts, n, &s.marks, &live);
     let unset = counts::unset(m, &s.links);
     if !((s.acts == acts) & (s.unset == unset)) {
-        return Refusal {
+        return Err(Refusal {
             number: 10,
             place: 0,
-        };
+        });
     }
-    Refusal {
-        number: 0,
-        place: 0,
-    }
+    Ok(())
 }
 
 // Check 10 (c) and on.
-fn fit_waits(m: usize, n: usize, ts: &[u8], s: State) -> Refusal
+fn fit_waits(m: usize, n: usize, ts: &[u8], s: State) -> Result<(), Refusal>
     requires { (m ≤ 64) × RowsLent ts.now n }
-    ensures { result ≡ checked refuse (refuse 0 0) (from_c m n ts.now s) }
+    ensures { result ≡ checked no (Ok tt) (from_c m n ts.now s) }
 {
     let place = bad_wait(ts, n, &s.marks);
     if place < n {
-        return Refusal { number: 10, place };
+        return Err(Refusal { number: 10, place });
     }
     fit_clear(m, n, ts, s)
 }
 
 // Check 10 (b) and on.
-fn fit_links(m: usize, n: usize, ts: &[u8], s: State) -> Refusal
+fn fit_links(m: usize, n: usize, ts: &[u8], s: State) -> Result<(), Refusal>
     requires { (m ≤ 64) × RowsLent ts.now n }
-    ensures { result ≡ checked refuse (refuse 0 0) (from_b m n ts.now s) }
+    ensures { result ≡ checked no (Ok tt) (from_b m n ts.now s) }
 {
     let place = bad_link(m, &s.links);
     if place < 64 {
-        return Refusal { number: 10, place };
+        return Err(Refusal { number: 10, place });
     }
     fit_waits(m, n, ts, s)
 }
 
 // Check 10 (a) and on.
-fn fit_marks(m: usize, n: usize, ts: &[u8], s: State) -> Refusal
+fn fit_marks(m: usize, n: usize, ts: &[u8], s: State) -> Result<(), Refusal>
     requires { (m ≤ 64) × RowsLent ts.now n }
-    ensures { result ≡ checked refuse (refuse 0 0) (from_a m n ts.now s) }
+    ensures { result ≡ checked no (Ok tt) (from_a m n ts.now s) }
 {
     let place = bad_mark(s.mode, ts, n, &s.marks);
     if place < 256 {
-        return Refusal { number: 10, place };
+        return Err(Refusal { number: 10, place });
     }
     fit_links(m, n, ts, s)
 }
 
 // The refusal of a state: checks 9 and 10, in order.
-pub fn fit(m: usize, n: usize, ts: &[u8], s: State) -> Refusal
+pub fn fit(m: usize, n: usize, ts: &[u8], s: State) -> Result<(), Refusal>
     requires { (m ≤ 64) × RowsLent ts.now n }
-    ensures { result ≡ checked refuse (refuse 0 0) (state_checks m n ts.now s) }
+    ensures { result ≡ fitted m n ts.now s }
 {
     let mode = s.mode;
     if !mode_ok(mode) {
-        return Refusal {
+        return Err(Refusal {
             number: 9,
-            place: wide(mode),
-        };
+            place: mode as usize,
+        });
     }
     fit_marks(m, n, ts, s)
 }

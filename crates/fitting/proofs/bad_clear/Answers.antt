@@ -1,4 +1,4 @@
-use mathlib.Core.Path.{◌∙◌}
+use mathlib.Core.Path.{◌≡◌, ◌∙◌}
 use Rattle.fitting.proofs.Places.{clear_read}
 use Rattle.laws.proofs.Checks.{scanned_none, scanned_more, scanned_stop, scanned_end}
 use native.Mathlib.Omega.{arith}
@@ -7,18 +7,15 @@ use Rattle.fitting.proofs.bad_clear.Goals as goal
 pub loop-row-init : goal.loop-row-init
 loop-row-init c = scanned_none _
 
-pub clear_ok-requires : goal.clear_ok-requires
-clear_ok-requires c = (omega arith, c.requires.1.0)
-
 pub returns-then-not-clear_ok : goal.returns-then-not-clear_ok
 returns-then-not-clear_ok c =
     scanned_stop _ _ c.loop-row.invariant c.loop-row-test.true
-    (clear_read _ _ _ _ _ c.loop-row-test.true _ _ c.requires.1.1 c.clear_ok.ensures ∙ c.if-not-clear_ok.true)
+    (clear_read _ _ _ _ _ c.loop-row-test.true _ _ c.requires.1 c.clear_ok.ensures ∙ c.if-not-clear_ok.true)
 
 pub loop-row-preserved : goal.loop-row-preserved
 loop-row-preserved c =
     scanned_more _ _ c.loop-row.invariant c.loop-row-test.true
-    (clear_read _ _ _ _ _ c.loop-row-test.true _ _ c.requires.1.1 c.clear_ok.ensures ∙ c.if-not-clear_ok.false)
+    (clear_read _ _ _ _ _ c.loop-row-test.true _ _ c.requires.1 c.clear_ok.ensures ∙ c.if-not-clear_ok.false)
 
 pub returns : goal.returns
-returns c = scanned_end _ _ c.loop-row.invariant c.loop-row-test.false
+returns c = let e : c.args.n ≡ c.loop-row.row = omega arith in e ∙ scanned_end _ _ c.loop-row.invariant c.loop-row-test.false

@@ -1,4 +1,5 @@
-use mathlib.Core.Path.{◌∙◌}
+use mathlib.Core.Path.{◌≡◌, ◌∙◌}
+use native.Mathlib.Omega.{arith}
 use Rattle.fitting.proofs.Places.{link_read}
 use Rattle.laws.proofs.Checks.{scanned_none, scanned_more, scanned_stop, scanned_end}
 use Rattle.fitting.proofs.bad_link.Goals as goal
@@ -13,4 +14,4 @@ pub loop-link-preserved : goal.loop-link-preserved
 loop-link-preserved c = scanned_more _ _ c.loop-link.invariant c.loop-link-test.true (link_read _ _ _ _ c.link_ok.ensures ∙ c.if-not-link_ok.false)
 
 pub returns : goal.returns
-returns c = scanned_end _ _ c.loop-link.invariant c.loop-link-test.false
+returns c = let e : 64 ≡ c.loop-link.link = omega arith in e ∙ scanned_end _ _ c.loop-link.invariant c.loop-link-test.false

@@ -1,10 +1,6 @@
-use Prim.Native.Nat.{◌-◌}
 use Rattle.laws.proofs.Checks.{Scanned}
 use Rattle.moves.specs.Fits.{links_fit}
 use Rattle.fitting.proofs.bad_link.Given as goal
 
 abbrev pub invariant-loop-link : goal.invariant-loop-link
 invariant-loop-link l = Scanned (links_fit l.m l.links) l.link
-
-abbrev pub decreases-loop-link : goal.decreases-loop-link
-decreases-loop-link l = 64 - l.link

@@ -6,13 +6,13 @@ use Rattle.fitting.proofs.Places.{mark_read, rest_read}
 use Rattle.fitting.proofs.bad_mark.Goals as goal
 
 pub loop-row-init : goal.loop-row-init
-loop-row-init c = (omega arith, scanned_none _)
+loop-row-init c = scanned_none _
 
 pub returns-then-not-suits : goal.returns-then-not-suits
-returns-then-not-suits c = scanned_stop _ _ c.loop-row.invariant.1 (omega arith) (mark_read _ _ _ (λ k. get_or c.args.marks.now k 0) _ _ c.loop-row-test.true c.suits.ensures ∙ c.if-not-suits.true)
+returns-then-not-suits c = scanned_stop _ _ c.loop-row.invariant (omega arith) (mark_read _ _ _ (λ k. get_or c.args.marks.now k 0) _ _ c.loop-row-test.true c.suits.ensures ∙ c.if-not-suits.true)
 
 pub loop-row-preserved : goal.loop-row-preserved
-loop-row-preserved c = (omega arith, scanned_more _ _ c.loop-row.invariant.1 (omega arith) (mark_read _ _ _ (λ k. get_or c.args.marks.now k 0) _ _ c.loop-row-test.true c.suits.ensures ∙ c.if-not-suits.false))
+loop-row-preserved c = scanned_more _ _ c.loop-row.invariant (omega arith) (mark_read _ _ _ (λ k. get_or c.args.marks.now k 0) _ _ c.loop-row-test.true c.suits.ensures ∙ c.if-not-suits.false)
 
 pub returns : goal.returns
-returns c = let e : c.loop-row.row ≡ c.args.n = omega arith in c.bad_rest.ensures ∙ rest_read _ _ _ _ (rw e at c.loop-row.invariant.1)
+returns c = let e : c.loop-row.row ≡ c.args.n = omega arith in c.bad_rest.ensures ∙ rest_read _ _ _ _ (rw e at c.loop-row.invariant)

@@ -1,4 +1,3 @@
-use Prim.Native.Nat.{◌-◌, ◌≤◌}
 use lib.ListN.{get_or}
 use Rattle.laws.proofs.Checks.{Scanned}
 use Rattle.moves.specs.Steps.{mode_of}
@@ -6,7 +5,4 @@ use Rattle.moves.specs.Fits.{marks_fit}
 use Rattle.fitting.proofs.bad_mark.Given as goal
 
 abbrev pub invariant-loop-row : goal.invariant-loop-row
-invariant-loop-row l = (l.row ≤ l.n) × Scanned (marks_fit l.ts l.n (mode_of l.mode) (λ k. get_or l.marks k 0)) l.row
-
-abbrev pub decreases-loop-row : goal.decreases-loop-row
-decreases-loop-row l = l.n - l.row
+invariant-loop-row l = Scanned (marks_fit l.ts l.n (mode_of l.mode) (λ k. get_or l.marks k 0)) l.row

@@ -1,5 +1,7 @@
+use mathlib.Core.Path.{◌≡◌, ◌∙◌}
 use lib.ListN.{get_or}
 use borrow.Author.Tests.{eq-eqb, ne_eqb}
+use native.Mathlib.Omega.{arith}
 use Rattle.laws.proofs.Checks.{scanned_none, scanned_more, scanned_stop, scanned_end}
 use Rattle.fitting.proofs.Places.{rest_all}
 use Rattle.fitting.proofs.bad_rest.Goals as goal
@@ -17,4 +19,4 @@ pub loop-row-preserved : goal.loop-row-preserved
 loop-row-preserved c = scanned_more _ _ c.loop-row.invariant c.loop-row-test.true (eq-eqb _ 0 c.if-marks-row-ne0.false)
 
 pub returns : goal.returns
-returns c = scanned_end _ _ c.loop-row.invariant c.loop-row-test.false
+returns c = let e : 256 ≡ c.loop-row.row = omega arith in e ∙ scanned_end _ _ c.loop-row.invariant c.loop-row-test.false

@@ -1,4 +1,5 @@
-use mathlib.Core.Path.{◌∙◌}
+use mathlib.Core.Path.{◌≡◌, ◌∙◌}
+use native.Mathlib.Omega.{arith}
 use Rattle.fitting.proofs.Places.{wait_read}
 use Rattle.laws.proofs.Checks.{scanned_none, scanned_more, scanned_stop, scanned_end}
 use Rattle.fitting.proofs.bad_wait.Goals as goal
@@ -16,4 +17,4 @@ pub loop-row-preserved : goal.loop-row-preserved
 loop-row-preserved c = scanned_more _ _ c.loop-row.invariant c.loop-row-test.true (wait_read _ _ _ _ _ c.loop-row-test.true _ c.ask-held.ensures c.wait_ok.ensures ∙ c.if-not-wait_ok.false)
 
 pub returns : goal.returns
-returns c = scanned_end _ _ c.loop-row.invariant c.loop-row-test.false
+returns c = let e : c.args.n ≡ c.loop-row.row = omega arith in e ∙ scanned_end _ _ c.loop-row.invariant c.loop-row-test.false

@@ -1,4 +1,3 @@
-use Prim.Native.Nat.{◌-◌}
 use lib.ListN.{get_or}
 use Rattle.laws.proofs.Checks.{Scanned}
 use Rattle.moves.specs.Fits.{waits_fit}
@@ -6,6 +5,3 @@ use Rattle.fitting.proofs.bad_wait.Given as goal
 
 abbrev pub invariant-loop-row : goal.invariant-loop-row
 invariant-loop-row l = Scanned (waits_fit l.ts l.n (λ k. get_or l.marks k 0)) l.row
-
-abbrev pub decreases-loop-row : goal.decreases-loop-row
-decreases-loop-row l = l.n - l.row

@@ -1,11 +1,12 @@
 use mathlib.Core.Path.{sym, ◌∙◌}
-use Rattle.sheet.specs.Rules.{refuse}
+use Rattle.std.specs.Prelude.{Ok}
+use Rattle.sheet.specs.Rules.{no}
 use Rattle.sheet.proofs.Refusals.{one_place_fails, one_place_holds}
 use native.Mathlib.Omega.{arith}
 use Rattle.fitting.proofs.fit.Goals as goal
 
 pub returns-then-not-mode_ok : goal.returns-then-not-mode_ok
-returns-then-not-mode_ok c = rw c.wide.ensures (one_place_fails refuse (refuse 0 0) _ _ (omega arith) (sym c.mode_ok.ensures ∙ c.if-not-mode_ok.true))
+returns-then-not-mode_ok c = one_place_fails no (Ok tt) _ _ (omega arith) (sym c.mode_ok.ensures ∙ c.if-not-mode_ok.true)
 
 pub returns : goal.returns
-returns c = c.fit_marks.ensures ∙ one_place_holds refuse (refuse 0 0) _ _ (omega arith) (sym c.mode_ok.ensures ∙ c.if-not-mode_ok.false)
+returns c = c.fit_marks.ensures ∙ one_place_holds no (Ok tt) _ _ (omega arith) (sym c.mode_ok.ensures ∙ c.if-not-mode_ok.false)
