@@ -1,6 +1,7 @@
 -- The contents of a sheet, place by place, and what right contents say of the bodies. Assumes nothing.
 use Prim.Native.Nat.{ℕ, ◌+◌, ◌-◌, ◌*◌, ◌/◌, ◌%◌, ◌<◌, ◌≤◌}
 use mathlib.Core.Path.{◌≡◌, refl, ◌∙◌}
+use Rattle.std.specs.Prelude.{Result}
 use mathlib.Core.Bool.{Bool, true, false, ◌&&◌}
 use mathlib.Core.List.{List, ◌∷◌}
 use native.Mathlib.Omega.{arith}
@@ -13,7 +14,7 @@ use Rattle.laws.proofs.Checks.{checked_fails, checked_holds, Scanned, scanned_no
 use Rattle.sheet.specs.declared.Head.{Head}
 use Rattle.sheet.specs.declared.Refusal.{Refusal}
 use Rattle.sheet.specs.Table.{table_of}
-use Rattle.sheet.specs.Rules.{table_checks, refusal_of}
+use Rattle.sheet.specs.Rules.{table_checks, refusal_of, judged}
 use Rattle.sheet.specs.Sheet.{number_at, entry_ok, in_fours, contents_ok, contents, head_of, terms_of, conditions_of, sheet_size, table_in, sheet_checks}
 use Rattle.sheet.proofs.Refusals.{table_refused, table_accepted, one_place_fails, one_place_holds}
 use Rattle.codec.specs.Answers.{Framed}
@@ -129,7 +130,7 @@ pub conditions_part : (s : List ℕ) (x y : ℕ) → x ≡ number_at s 9 → y �
 unfolding conditions_of
 conditions_part s x y p q = let z : 18 + x + y - (18 + x) ≡ y = omega arith in rw (z, p, q) refl
 
-pub parts_judged : (s ts cs : List ℕ) (h : Head) (r : Refusal) → h ≡ head_of s → ts ≡ terms_of s → cs ≡ conditions_of s → r ≡ refusal_of (table_of h ts cs) → r ≡ refusal_of (table_in s)
+pub parts_judged : (s ts cs : List ℕ) (h : Head) (r : Result (Unit {0}) Refusal) → h ≡ head_of s → ts ≡ terms_of s → cs ≡ conditions_of s → r ≡ judged (table_of h ts cs) → r ≡ judged (table_in s)
 parts_judged s ts cs h r p q z e = rw (p, q, z) at e
 
 -- 1 and 2, then the table of the parts

@@ -2,6 +2,7 @@
 use Prim.Native.Nat.{ℕ, zero, suc, ◌+◌, ◌*◌, ◌/◌, ◌%◌, ◌<◌, ◌≤◌}
 use mathlib.Core.Path.{◌≡◌, refl, sym, ◌∙◌, ap, ap₂}
 use mathlib.Core.Bool.{true}
+use Rattle.std.specs.Prelude.{Ok}
 use mathlib.Core.List.{List, [], ◌∷◌, ◌++◌}
 use native.Mathlib.Omega.{arith}
 use lib.ListN.{get_or, length, take, drop, take-append-drop, length-drop}
@@ -13,13 +14,11 @@ use Rattle.laws.proofs.Checks.{place_holds}
 use Rattle.sheet.specs.declared.Head.{Head}
 use Rattle.sheet.specs.declared.Refusal.{Refusal}
 use Rattle.sheet.specs.Table.{Table, table_of}
-use Rattle.sheet.specs.Rules.{refuse, refusal_of}
+use Rattle.sheet.specs.Rules.{refuse, no, refusal_of}
 use Rattle.sheet.specs.Accepted.{WellFormed}
 use Rattle.sheet.specs.Sheet.{number_at, front, sheet_of, size_of, head_of, terms_of, conditions_of, sheet_size, entry_ok, in_fours, contents_ok, contents, table_in}
 use Rattle.sheet.proofs.Accepted.{Meets, meets, well_formed}
 use Rattle.sheet.proofs.Beyond.{cut_refusal, meets_accepted}
-use Rattle.codec.specs.declared.SheetAnswer.TheVariants as sheet
-use Rattle.codec.specs.declared.SizeAnswer.TheVariants as size
 use Rattle.codec.specs.Answers.{Bytes, read_of, part_of, write_of, written_of}
 use Rattle.codec.proofs.Reading.{contents_right, Bodies, bodies}
 use Rattle.codec.proofs.Judged.{lengths, accepted_is, is_accepted}
@@ -88,7 +87,7 @@ bodies_are s w =
     let z : length (drop (18 + x) s) ≤ y = omega (arith, length-drop (18 + x) s, w.ends) in
     rw (t, c, take-take x x (drop 18 s) (omega arith), take-take y y (drop (18 + x) s) (omega arith), take_all y (drop (18 + x) s) z, ← drop-drop x 18 s) (take-append-drop x (drop 18 s))
 
-pub sheet_of_parts : (s : List ℕ) (h : Head) → Bytes s → read_of s ≡ sheet.Sheet h → sheet_of h (terms_of s) (conditions_of s) ≡ s
+pub sheet_of_parts : (s : List ℕ) (h : Head) → Bytes s → read_of s ≡ Ok h → sheet_of h (terms_of s) (conditions_of s) ≡ s
 unfolding sheet_of
 sheet_of_parts s h b e =
     let r = accepted_is s h e in
@@ -203,7 +202,7 @@ module _ (h : Head) (ts cs : List ℕ) (accepted : (refusal_of (table_of h ts cs
   unfolding refusal_of
   table_back = rw (head_back, terms_back, conditions_back) (sym (cut_refusal t) ∙ meets_accepted refuse (refuse 0 0) t g)
 
-  pub read_of_sheet : read_of s ≡ sheet.Sheet h
+  pub read_of_sheet : read_of s ≡ Ok h
   read_of_sheet = is_accepted s h (record { size = sized_right; sound = sound; table = table_back; head = sym head_back })
 
   -- in the words of the calls
@@ -214,9 +213,9 @@ module _ (h : Head) (ts cs : List ℕ) (accepted : (refusal_of (table_of h ts cs
   conditions_handed = sym (part_whole s (conditions_of s) (read_of s) refl h read_of_sheet) ∙ conditions_back
 
   module _ (out : List ℕ) (fits : size_of h ≤ length out) where
-    pub size_told : write_of h ts cs (length out) ≡ size.Size (size_of h)
+    pub size_told : write_of h ts cs (length out) ≡ Ok (size_of h)
     unfolding write_of
-    size_told = sym (write_whole size.Refused (size.Size (size_of h)) h ts cs (length out) (refusal_of t) refl accepted fits)
+    size_told = sym (write_whole no (Ok (size_of h)) h ts cs (length out) (refusal_of t) refl accepted fits)
 
     pub bytes_written : written_of h ts cs out ≡ s ++ drop (size_of h) out
     unfolding written_of written
@@ -225,15 +224,15 @@ module _ (h : Head) (ts cs : List ℕ) (accepted : (refusal_of (table_of h ts cs
     pub written_front : take (size_of h) (written_of h ts cs out) ≡ s
     written_front = ap (take (size_of h)) bytes_written ∙ take_at s (drop (size_of h) out) (size_of h) long
 
-    pub written_then_read : read_of (take (size_of h) (written_of h ts cs out)) ≡ sheet.Sheet h
+    pub written_then_read : read_of (take (size_of h) (written_of h ts cs out)) ≡ Ok h
     written_then_read = ap read_of written_front ∙ read_of_sheet
 
-pub read_then_written : (s : List ℕ) (h : Head) → Bytes s → read_of s ≡ sheet.Sheet h → (out : List ℕ) → length s ≤ length out → (write_of h (terms_of s) (conditions_of s) (length out) ≡ size.Size (length s)) × (written_of h (terms_of s) (conditions_of s) out ≡ s ++ drop (length s) out)
+pub read_then_written : (s : List ℕ) (h : Head) → Bytes s → read_of s ≡ Ok h → (out : List ℕ) → length s ≤ length out → (write_of h (terms_of s) (conditions_of s) (length out) ≡ Ok (length s)) × (written_of h (terms_of s) (conditions_of s) out ≡ s ++ drop (length s) out)
 read_then_written s h b e out fits =
     let r = accepted_is s h e in
     let a : (refusal_of (table_of h (terms_of s) (conditions_of s))).number ≡ 0 = rw r.head (ap (λ (x : Refusal). x.number) r.table) in
     let p : sheet_of h (terms_of s) (conditions_of s) ≡ s = sheet_of_parts s h b e in
     let l : size_of h ≡ length s = sym (long h (terms_of s) (conditions_of s) a) ∙ ap length p in (
-      size_told h (terms_of s) (conditions_of s) a out (omega arith) ∙ ap size.Size l,
+      size_told h (terms_of s) (conditions_of s) a out (omega arith) ∙ ap Ok l,
       bytes_written h (terms_of s) (conditions_of s) a out (omega arith) ∙ ap₂ (λ (xs : List ℕ) (x : ℕ). xs ++ drop x out) p l,
     )

@@ -1,6 +1,7 @@
 -- Three copies make the bytes of a table, and the answers of writing. Assumes nothing.
 use Prim.Native.Nat.{ℕ, ◌+◌, ◌*◌, ◌<◌, ◌≤◌}
 use mathlib.Core.Path.{◌≡◌, refl, sym, ◌∙◌, ap, ap₂}
+use Rattle.std.specs.Prelude.{Result, Ok, Err}
 use mathlib.Core.List.{List, [], ◌∷◌, ◌++◌, append_assoc}
 use native.Mathlib.Omega.{arith}
 use lib.ListN.{length, take, drop, length-append, take-append-drop}
@@ -12,12 +13,10 @@ use Rattle.laws.proofs.Listed.{written_short}
 use Rattle.sheet.specs.declared.Head.{Head}
 use Rattle.sheet.specs.declared.Refusal.{Refusal}
 use Rattle.sheet.specs.Table.{table_of}
-use Rattle.sheet.specs.Rules.{refusal_of}
+use Rattle.sheet.specs.Rules.{no, refusal_of}
 use Rattle.sheet.specs.Sheet.{front, sheet_of, size_of, room}
 use Rattle.sheet.proofs.Accepted.{accepted_form}
 use Rattle.sheet.proofs.Refusals.{table_refused_first, table_accepted_first, one_place_fails, one_place_holds}
-use Rattle.codec.specs.declared.SizeAnswer.{SizeAnswer}
-use Rattle.codec.specs.declared.SizeAnswer.TheVariants as size
 use Rattle.codec.specs.Answers.{write_checks, write_of, written_of}
 
 pub front_length : (h : Head) → length (front h) ≡ 18
@@ -98,22 +97,22 @@ module _ {A : Type 0} (answer : ℕ → ℕ → A) (good : A) (h : Head) (ts cs 
 
 -- THE ANSWERS OF WRITING, and the buffer after it
 module _ (h : Head) (ts cs lent : List ℕ) (r : Refusal) (told : r ≡ refusal_of (table_of h ts cs)) where
-  abbrev Wrote : SizeAnswer → List ℕ → Type 0
+  abbrev Wrote : Result ℕ Refusal → List ℕ → Type 0
   Wrote a out = (a ≡ write_of h ts cs (length lent)) × (out ≡ written_of h ts cs lent)
 
-  pub wrote_refused : (r.number ≡ 0 → ⊥) → Wrote (size.Refused r.number r.place) lent
+  pub wrote_refused : (r.number ≡ 0 → ⊥) → Wrote (Err r) lent
   unfolding write_of written_of
-  wrote_refused n = (write_refused size.Refused _ h ts cs _ r told n, write_refused (λ number place. lent) _ h ts cs _ r told n)
+  wrote_refused n = (write_refused no _ h ts cs _ r told n, write_refused (λ number place. lent) _ h ts cs _ r told n)
 
   module _ (e : r.number ≡ 0) (out : List ℕ) (x : ℕ) (f : x ≡ size_of h) (g : out ≡ written (sheet_of h ts cs) lent) where
-    pub wrote_short : length lent < x → Wrote (size.Refused 12 x) out
+    pub wrote_short : length lent < x → Wrote (no 12 x) out
     unfolding write_of written_of
     wrote_short l =
         let w = accepted_form (table_of h ts cs) r told e in
         let l' : length lent < size_of h = omega arith in
         let same : out ≡ lent = g ∙ sym (lay_short h ts cs (omega (arith, w.terms_lent)) (omega (arith, w.conditions_lent)) lent l') in
-        (ap (size.Refused 12) f ∙ write_short size.Refused _ h ts cs _ r told e l', same ∙ write_short (λ number place. lent) _ h ts cs _ r told e l')
+        (ap (no 12) f ∙ write_short no _ h ts cs _ r told e l', same ∙ write_short (λ number place. lent) _ h ts cs _ r told e l')
 
-    pub wrote_whole : x ≤ length lent → Wrote (size.Size x) out
+    pub wrote_whole : x ≤ length lent → Wrote (Ok x) out
     unfolding write_of written_of
-    wrote_whole l = let l' : size_of h ≤ length lent = omega arith in (ap size.Size f ∙ write_whole size.Refused _ h ts cs _ r told e l', g ∙ write_whole (λ number place. lent) _ h ts cs _ r told e l')
+    wrote_whole l = let l' : size_of h ≤ length lent = omega arith in (ap Ok f ∙ write_whole no _ h ts cs _ r told e l', g ∙ write_whole (λ number place. lent) _ h ts cs _ r told e l')

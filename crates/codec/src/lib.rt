@@ -6,39 +6,19 @@ ghost use Rattle.std.specs.Prelude.{◌≡◌, ◌+◌, ◌*◌, ◌<◌, ◌≤
 ghost use Rattle.std.proofs.Math.Seq.{paste};
 ghost use Rattle.laws.specs.Checks.{place_of};
 ghost use Rattle.laws.specs.Listed.{written};
-ghost use Rattle.sheet.specs.Rules.{refusal_of};
+ghost use Rattle.sheet.specs.Rules.{judged};
 ghost use Rattle.sheet.specs.Sheet.{number_at, entry_ok, in_fours, contents, contents_ok, head_of, settings_of, terms_of, conditions_of, table_in, front, size_of, sheet_of};
 ghost use Rattle.codec.specs.Answers.{read_of, part_of, write_of, written_of, Framed, InRange};
 
 use sheet::{Head, Refusal};
-
-// The head of an accepted sheet, or number and place.
-#[derive(Clone, Copy)]
-pub enum SheetAnswer {
-    Sheet(Head),
-    Refused(u8, usize),
-}
-
-// The size that was written or listed, or number and place.
-#[derive(Clone, Copy)]
-pub enum SizeAnswer {
-    Size(usize),
-    Refused(u8, usize),
-}
-
-fn wide(x: u8) -> usize
-    ensures { result ≡ x }
-{
-    x as usize
-}
 
 // A number of two bytes, the lower first.
 fn two(s: &[u8], at: usize) -> usize
     requires { (at + 2 ≤ length s.now) × (at < 256) }
     ensures { (result ≡ number_at s.now at) × (result < 65536) }
 {
-    let low = wide(s[at]);
-    let high = wide(s[at + 1]);
+    let low = s[at] as usize;
+    let high = s[at + 1] as usize;
     low + 256 * high
 }
 
@@ -104,7 +84,7 @@ fn head_of(s: &[u8]) -> Head
 {
     Head {
         evaluation: s[16],
-        m: wide(s[17]),
+        m: s[17] as usize,
         n: two(s, 9) / 4,
         k: two(s, 14) / 4,
     }
@@ -129,36 +109,40 @@ fn conditions_in(s: &[u8]) -> &[u8]
 }
 
 // 1, 3 to 8 and 13 of the table of the parts.
-fn judge_parts(s: &[u8]) -> Refusal
+fn judge_parts(s: &[u8]) -> Result<(), Refusal>
     requires { Framed s.now }
-    ensures { result ≡ refusal_of (table_in s.now) }
+    ensures { result ≡ judged (table_in s.now) }
 {
     let h = head_of(s);
     judge::judge(h, terms_in(s), conditions_in(s))
 }
 
 // The head of a sheet, or its refusal.
-pub fn read(s: &[u8]) -> SheetAnswer
+pub fn read(s: &[u8]) -> Result<Head, Refusal>
     ensures { result ≡ read_of s.now }
 {
     let size = s.len();
     if size < 22 {
-        return SheetAnswer::Refused(1, 0);
+        return Err(Refusal {
+            number: 1,
+            place: 0,
+        });
     }
     if 2066 < size {
-        return SheetAnswer::Refused(1, 0);
+        return Err(Refusal {
+            number: 1,
+            place: 0,
+        });
     }
     let fault = bad_contents(s);
     if fault < 12 {
-        return SheetAnswer::Refused(2, fault);
+        return Err(Refusal {
+            number: 2,
+            place: fault,
+        });
     }
-    let refusal = judge_parts(s);
-    let number = refusal.number;
-    let place = refusal.place;
-    if number != 0 {
-        return SheetAnswer::Refused(number, place);
-    }
-    SheetAnswer::Sheet(head_of(s))
+    judge_parts(s)?;
+    Ok(head_of(s))
 }
 
 // The bodies of an accepted sheet, parts of the lent bytes; empty where the sheet is refused.
@@ -166,8 +150,8 @@ pub fn settings(s: &[u8]) -> &[u8]
     ensures { result.now ≡ part_of s.now (settings_of s.now) }
 {
     match read(s) {
-        SheetAnswer::Sheet(h) => &s[16..18],
-        SheetAnswer::Refused(number, place) => &s[0..0],
+        Ok(_) => &s[16..18],
+        Err(_) => &s[0..0],
     }
 }
 
@@ -175,8 +159,8 @@ pub fn terms(s: &[u8]) -> &[u8]
     ensures { result.now ≡ part_of s.now (terms_of s.now) }
 {
     match read(s) {
-        SheetAnswer::Sheet(h) => terms_in(s),
-        SheetAnswer::Refused(number, place) => &s[0..0],
+        Ok(_) => terms_in(s),
+        Err(_) => &s[0..0],
     }
 }
 
@@ -184,8 +168,8 @@ pub fn conditions(s: &[u8]) -> &[u8]
     ensures { result.now ≡ part_of s.now (conditions_of s.now) }
 {
     match read(s) {
-        SheetAnswer::Sheet(h) => conditions_in(s),
-        SheetAnswer::Refused(number, place) => &s[0..0],
+        Ok(_) => conditions_in(s),
+        Err(_) => &s[0..0],
     }
 }
 
@@ -224,11 +208,7 @@ fn copy(out: &mut [u8], at: usize, from: &[u8], count: usize)
     requires { (at + count ≤ length out.old) × (count ≤ length from.now) }
     ensures { out.new ≡ paste out.old at from.now count }
 {
-    let mut i = 0;
-    while i < count {
-        out[at + i] = from[i];
-        i += 1;
-    }
+    out[at..at + count].copy_from_slice(&from[..count]);
 }
 
 // The bytes of a table to a lent buffer, and how many; a buffer that is too short is left as it is. Nothing is judged.
@@ -249,20 +229,18 @@ pub fn lay(h: Head, ts: &[u8], cs: &[u8], out: &mut [u8]) -> usize
     size
 }
 
-// The bytes of a table, or its refusal, or 12 with the size that is needed.
-pub fn write(h: Head, ts: &[u8], cs: &[u8], out: &mut [u8]) -> SizeAnswer
+// The bytes of a table, and how many; or its refusal, or 12 with the size that is needed.
+pub fn write(h: Head, ts: &[u8], cs: &[u8], out: &mut [u8]) -> Result<usize, Refusal>
     ensures { (result ≡ write_of h ts.now cs.now (length out.old)) × (out.new ≡ written_of h ts.now cs.now out.old) }
 {
-    let refusal = judge::judge(h, ts, cs);
-    let number = refusal.number;
-    let place = refusal.place;
-    if number != 0 {
-        return SizeAnswer::Refused(number, place);
-    }
+    judge::judge(h, ts, cs)?;
     let room = out.len();
     let size = lay(h, ts, cs, out);
     if room < size {
-        return SizeAnswer::Refused(12, size);
+        return Err(Refusal {
+            number: 12,
+            place: size,
+        });
     }
-    SizeAnswer::Size(size)
+    Ok(size)
 }

@@ -21,9 +21,9 @@ use Rattle.sheet.proofs.Rows.{term_row, row_kids}
 use Rattle.judge.specs.Judge.{Sound, bumped, Few, OneMore, Children, Once}
 
 -- 5 from the four bytes of a row, the last three widened
-pub term_read : (ts : List ℕ) (m n k i x y z : ℕ) (r : Bool) → x ≡ get_or ts (i * 4 + 1) 0 → y ≡ get_or ts (i * 4 + 2) 0 → z ≡ get_or ts (i * 4 + 3) 0 → r ≡ term_rule m n k i (get_or ts (i * 4) 0) x y z → term_ok ts m n k i ≡ r
+pub term_read : (ts : List ℕ) (m n k i : ℕ) (r : Bool) → r ≡ term_rule m n k i (get_or ts (i * 4) 0) (get_or ts (i * 4 + 1) 0) (get_or ts (i * 4 + 2) 0) (get_or ts (i * 4 + 3) 0) → term_ok ts m n k i ≡ r
 unfolding term_ok
-term_read ts m n k i x y z r p q s e = sym (rw (p, q, s) at e)
+term_read ts m n k i r e = sym e
 
 module _ (m n k : ℕ) (ts : List ℕ) where
   pub sound_none : Sound m n k ts 0

@@ -8,7 +8,7 @@ use lib.ListN.{get_or}
 use Rattle.laws.specs.Checks.{Check, place_of}
 use Rattle.laws.proofs.Checks.{place_holds}
 use Rattle.sheet.specs.Table.{Table, row_at}
-use Rattle.sheet.specs.Rules.{term_ok, terms, tree, from5, from6, from7, refuse}
+use Rattle.sheet.specs.Rules.{term_ok, terms, tree, from5, from6, from7, no}
 use Rattle.judge.specs.declared.Notes.{Notes}
 use Rattle.judge.specs.Judge.{AfterConditions, Sound, OneMore, Children, Once, Misnamed, links_noted, AfterRows}
 use Rattle.judge.proofs.Chain.{first, fails, holds, holds_all}
@@ -52,7 +52,7 @@ module _ (t : Table) (masks named : List ℕ) (s : Notes) (p : Passed t masks t.
       holds_all (terms t.m t.n t.k t.terms) (from6 t) (sound_holds t.m t.n t.k t.terms p.sound)
 
 -- 6 fails at a row, where 5 holds of those after it too
-pub misnamed_fails : (t : Table) (i : ℕ) → Misnamed t i → (p : ℕ) → p ≡ place_of (terms t.m t.n t.k t.terms) → t.n ≤ p → refuse 6 i ≡ first (from5 t)
+pub misnamed_fails : (t : Table) (i : ℕ) → Misnamed t i → (p : ℕ) → p ≡ place_of (terms t.m t.n t.k t.terms) → t.n ≤ p → no 6 i ≡ first (from5 t)
 unfolding Sound
 misnamed_fails t i g p e h =
     let c : Check = terms t.m t.n t.k t.terms in

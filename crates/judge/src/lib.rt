@@ -3,21 +3,15 @@
 
 #![tactic(auto)]
 
-ghost use Rattle.std.specs.Prelude.{◌≡◌, ◌+◌, ◌*◌, ◌<◌, ◌≤◌, length, get_or};
+ghost use Rattle.std.specs.Prelude.{◌≡◌, ◌+◌, ◌*◌, ◌<◌, ◌≤◌, Ok, length, get_or};
 ghost use Rattle.laws.specs.Up.{Filled};
 ghost use Rattle.laws.specs.Checks.{place_of, checked};
 ghost use Rattle.sheet.specs.Table.{table_of, row_by, is_compacted};
-ghost use Rattle.sheet.specs.Rules.{sized, condition_rule, condition_ok, child_ok, term_rule, conditions, terms, sourced, narrow, from3, from4, from5, from7, from13, from8, refuse, refusal_of};
+ghost use Rattle.sheet.specs.Rules.{sized, condition_rule, condition_ok, child_ok, term_rule, conditions, terms, sourced, narrow, from3, from4, from5, from7, from13, from8, no, judged};
 ghost use Rattle.reach.specs.Masks.{mask_at};
 ghost use Rattle.judge.specs.Judge.{Lent, AfterConditions, Sound, bumped, Few, OneMore, Children, Misnamed, source_noted, wide_noted, join_noted, links_noted, wants_within, AfterRows};
 
 use sheet::{Head, Refusal};
-
-fn wide(x: u8) -> usize
-    ensures { result ≡ x }
-{
-    x as usize
-}
 
 // 1: the numbers of rows, and the rows lent.
 fn sized_ok(n: usize, k: usize, lt: usize, lc: usize) -> bool
@@ -60,9 +54,9 @@ fn condition_ok(cs: &[u8], m: usize, row: usize) -> bool
         m,
         row,
         cs[at],
-        wide(cs[at + 1]),
-        wide(cs[at + 2]),
-        wide(cs[at + 3]),
+        cs[at + 1] as usize,
+        cs[at + 2] as usize,
+        cs[at + 3] as usize,
     )
 }
 
@@ -71,16 +65,13 @@ fn bad_condition(m: usize, k: usize, cs: &[u8], masks: &mut [u64; 256]) -> usize
     requires { (k * 4 ≤ length cs.now) × ((k ≤ 256) × ((length masks.old ≡ 256) × Filled 0 (mask_at cs.now) 0 masks.old)) }
     ensures { (result ≡ place_of (conditions m k cs.now)) × (k ≤ result → Filled 0 (mask_at cs.now) k masks.new) }
 {
-    let mut i = 0;
-    while i < k {
+    for i in 0..k {
         if !condition_ok(cs, m, i) {
             return i;
         }
-        let x = reach::step(cs, i, masks);
-        masks[i] = x;
-        i += 1;
+        masks[i] = reach::step(cs, i, masks);
     }
-    i
+    k
 }
 
 fn child(n: usize, row: usize, x: usize) -> bool
@@ -148,8 +139,7 @@ fn note_source(notes: Notes, link: u8) -> Notes
     Notes {
         linked: notes.linked | bit,
         twice: notes.twice | (notes.linked & bit),
-        wanted: notes.wanted,
-        join: notes.join,
+        ..notes
     }
 }
 
@@ -167,10 +157,9 @@ fn note_join(notes: Notes, n: usize, row: usize, mask: u64) -> Notes
     ensures { result ≡ join_noted notes n row mask }
 {
     Notes {
-        linked: notes.linked,
-        twice: notes.twice,
         wanted: notes.wanted | mask,
         join: note_wide(notes.join, n, row, mask),
+        ..notes
     }
 }
 
@@ -189,19 +178,17 @@ fn bad_term(m: usize, n: usize, k: usize, ts: &[u8], from: usize) -> usize
     requires { (n * 4 ≤ length ts.now) × ((from ≤ n) × Sound m n k ts.now from) }
     ensures { result ≡ place_of (terms m n k ts.now) }
 {
-    let mut i = from;
-    while i < n {
+    for i in from..n {
         let at = i * 4;
         let kind = ts[at];
-        let a = wide(ts[at + 1]);
-        let b = wide(ts[at + 2]);
-        let c = wide(ts[at + 3]);
+        let a = ts[at + 1] as usize;
+        let b = ts[at + 2] as usize;
+        let c = ts[at + 3] as usize;
         if !term_row(m, n, k, i, kind, a, b, c) {
             return i;
         }
-        i += 1;
     }
-    i
+    n
 }
 
 // Whether every link that a row wants is in a mask, of a sheet that was never compacted: a JOIN wants those that its condition reaches.
@@ -234,86 +221,99 @@ fn unsourced_join(h: Head, ts: &[u8], cs: &[u8], masks: &[u64; 256], notes: Note
     if reach::within(notes.wanted, linked) {
         return n;
     }
-    let mut row = 0;
-    while row < n {
+    for row in 0..n {
         let at = row * 4;
         let kind = ts[at];
         let a = ts[at + 1];
         if !wants_within(kind, a, masks, linked) {
             return row;
         }
-        row += 1;
     }
-    row
+    n
 }
 
 // Check 8, the last.
-fn judge_joins(h: Head, ts: &[u8], cs: &[u8], join: usize) -> Refusal
+fn judge_joins(h: Head, ts: &[u8], cs: &[u8], join: usize) -> Result<(), Refusal>
     requires { join ≡ place_of (narrow h.m h.n ts.now cs.now) }
-    ensures { result ≡ checked refuse (refuse 0 0) (from8 (table_of h ts.now cs.now)) }
+    ensures { result ≡ checked no (Ok tt) (from8 (table_of h ts.now cs.now)) }
 {
     let end = h.n;
     if join < end {
-        return Refusal {
+        return Err(Refusal {
             number: 8,
             place: join,
-        };
+        });
     }
-    Refusal {
-        number: 0,
-        place: 0,
-    }
+    Ok(())
 }
 
 // Check 13 and on.
-fn judge_wanted(h: Head, ts: &[u8], cs: &[u8], masks: &[u64; 256], notes: Notes) -> Refusal
+fn judge_wanted(
+    h: Head,
+    ts: &[u8],
+    cs: &[u8],
+    masks: &[u64; 256],
+    notes: Notes,
+) -> Result<(), Refusal>
     requires { AfterRows (table_of h ts.now cs.now) masks.now notes }
-    ensures { result ≡ checked refuse (refuse 0 0) (from13 (table_of h ts.now cs.now)) }
+    ensures { result ≡ checked no (Ok tt) (from13 (table_of h ts.now cs.now)) }
 {
     let end = h.n;
     let place = unsourced_join(h, ts, cs, masks, notes);
     if place < end {
-        return Refusal { number: 13, place };
+        return Err(Refusal { number: 13, place });
     }
     judge_joins(h, ts, cs, notes.join)
 }
 
 // Check 7 and on.
-fn judge_sources(h: Head, ts: &[u8], cs: &[u8], masks: &[u64; 256], notes: Notes) -> Refusal
+fn judge_sources(
+    h: Head,
+    ts: &[u8],
+    cs: &[u8],
+    masks: &[u64; 256],
+    notes: Notes,
+) -> Result<(), Refusal>
     requires { AfterRows (table_of h ts.now cs.now) masks.now notes }
-    ensures { result ≡ checked refuse (refuse 0 0) (from7 (table_of h ts.now cs.now)) }
+    ensures { result ≡ checked no (Ok tt) (from7 (table_of h ts.now cs.now)) }
 {
     let end = h.m;
     let link = u64::trailing_zeros(notes.twice) as usize;
     if link < end {
-        return Refusal {
+        return Err(Refusal {
             number: 7,
             place: link,
-        };
+        });
     }
     judge_wanted(h, ts, cs, masks, notes)
 }
 
 // The first row that is not named exactly once: 5 if a row from it on breaks its rule, else 6.
-fn judge_tree(h: Head, ts: &[u8], cs: &[u8], row: usize) -> Refusal
+fn judge_tree(h: Head, ts: &[u8], cs: &[u8], row: usize) -> Result<(), Refusal>
     requires { Misnamed (table_of h ts.now cs.now) row }
-    ensures { result ≡ checked refuse (refuse 0 0) (from5 (table_of h ts.now cs.now)) }
+    ensures { result ≡ checked no (Ok tt) (from5 (table_of h ts.now cs.now)) }
 {
     let end = h.n;
     let place = bad_term(h.m, h.n, h.k, ts, row);
     if place < end {
-        return Refusal { number: 5, place };
+        return Err(Refusal { number: 5, place });
     }
-    Refusal {
+    Err(Refusal {
         number: 6,
         place: row,
-    }
+    })
 }
 
 // Check 5 and on, in one pass: the rows that name a row as a child lie before it, so its count is complete when the pass comes to it.
-fn judge_rows(h: Head, ts: &[u8], cs: &[u8], masks: &[u64; 256], named: &mut [u16; 256]) -> Refusal
+fn judge_rows(
+    h: Head,
+    ts: &[u8],
+    cs: &[u8],
+    masks: &[u64; 256],
+    named: &mut [u16; 256],
+) -> Result<(), Refusal>
     requires { AfterConditions (table_of h ts.now cs.now) masks.now × Children ts.now 0 named.old }
-    ensures { result ≡ checked refuse (refuse 0 0) (from5 (table_of h ts.now cs.now)) }
+    ensures { result ≡ checked no (Ok tt) (from5 (table_of h ts.now cs.now)) }
 {
     let n = h.n;
     let mut notes = Notes {
@@ -322,8 +322,7 @@ fn judge_rows(h: Head, ts: &[u8], cs: &[u8], masks: &[u64; 256], named: &mut [u1
         wanted: 0,
         join: n,
     };
-    let mut i = 0;
-    while i < n {
+    for i in 0..n {
         let times = named[i];
         if times != 1 {
             return judge_tree(h, ts, cs, i);
@@ -333,23 +332,22 @@ fn judge_rows(h: Head, ts: &[u8], cs: &[u8], masks: &[u64; 256], named: &mut [u1
         let a = ts[at + 1];
         let b = ts[at + 2];
         let c = ts[at + 3];
-        if !term_row(h.m, n, h.k, i, kind, wide(a), wide(b), wide(c)) {
-            return Refusal {
+        if !term_row(h.m, n, h.k, i, kind, a as usize, b as usize, c as usize) {
+            return Err(Refusal {
                 number: 5,
                 place: i,
-            };
+            });
         }
         notes = note_links(notes, n, i, kind, a, masks);
         note_children(named, kind, a, b, c);
-        i += 1;
     }
     judge_sources(h, ts, cs, masks, notes)
 }
 
 // Check 5 and on. Row 0 counts as named, being the root.
-fn judge_terms(h: Head, ts: &[u8], cs: &[u8], masks: &[u64; 256]) -> Refusal
+fn judge_terms(h: Head, ts: &[u8], cs: &[u8], masks: &[u64; 256]) -> Result<(), Refusal>
     requires { AfterConditions (table_of h ts.now cs.now) masks.now }
-    ensures { result ≡ checked refuse (refuse 0 0) (from5 (table_of h ts.now cs.now)) }
+    ensures { result ≡ checked no (Ok tt) (from5 (table_of h ts.now cs.now)) }
 {
     let mut named = [0; 256];
     named[0] = 1;
@@ -357,52 +355,52 @@ fn judge_terms(h: Head, ts: &[u8], cs: &[u8], masks: &[u64; 256]) -> Refusal
 }
 
 // Check 4 and on.
-fn judge_conditions(h: Head, ts: &[u8], cs: &[u8]) -> Refusal
+fn judge_conditions(h: Head, ts: &[u8], cs: &[u8]) -> Result<(), Refusal>
     requires { Lent (table_of h ts.now cs.now) × (h.m ≤ 64) }
-    ensures { result ≡ checked refuse (refuse 0 0) (from4 (table_of h ts.now cs.now)) }
+    ensures { result ≡ checked no (Ok tt) (from4 (table_of h ts.now cs.now)) }
 {
     let mut masks = [0; 256];
     let end = h.k;
     let place = bad_condition(h.m, h.k, cs, &mut masks);
     if place < end {
-        return Refusal { number: 4, place };
+        return Err(Refusal { number: 4, place });
     }
     judge_terms(h, ts, cs, &masks)
 }
 
 // Check 3 and on.
-fn judge_settings(h: Head, ts: &[u8], cs: &[u8]) -> Refusal
+fn judge_settings(h: Head, ts: &[u8], cs: &[u8]) -> Result<(), Refusal>
     requires { Lent (table_of h ts.now cs.now) }
-    ensures { result ≡ checked refuse (refuse 0 0) (from3 (table_of h ts.now cs.now)) }
+    ensures { result ≡ checked no (Ok tt) (from3 (table_of h ts.now cs.now)) }
 {
     let e = h.evaluation;
     if 3 < e {
-        return Refusal {
+        return Err(Refusal {
             number: 3,
             place: 16,
-        };
+        });
     }
     let m = h.m;
     if 64 < m {
-        return Refusal {
+        return Err(Refusal {
             number: 3,
             place: 17,
-        };
+        });
     }
     judge_conditions(h, ts, cs)
 }
 
 // The refusal of a table: checks 1 and 3 to 8, in order, with 13 before 8.
-pub fn judge(h: Head, ts: &[u8], cs: &[u8]) -> Refusal
-    ensures { result ≡ refusal_of (table_of h ts.now cs.now) }
+pub fn judge(h: Head, ts: &[u8], cs: &[u8]) -> Result<(), Refusal>
+    ensures { result ≡ judged (table_of h ts.now cs.now) }
 {
     let lt = ts.len();
     let lc = cs.len();
     if !sized_ok(h.n, h.k, lt, lc) {
-        return Refusal {
+        return Err(Refusal {
             number: 1,
             place: 0,
-        };
+        });
     }
     judge_settings(h, ts, cs)
 }

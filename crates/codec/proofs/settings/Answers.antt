@@ -4,11 +4,11 @@ use native.Mathlib.Omega.{arith}
 use Rattle.codec.proofs.settings.Goals as goal
 
 pub slice_bounds-result-end : goal.slice_bounds-result-end
-slice_bounds-result-end c = let f = read_framed c.args.s.now _ c.read.ensures _ c.in-Sheet.is in omega (arith, f.long)
+slice_bounds-result-end c = let f = read_framed c.args.s.now _ c.read.ensures _ c.in-Ok.is in omega (arith, f.long)
 
-pub returns-in-Sheet : goal.returns-in-Sheet
+pub returns-in-Ok : goal.returns-in-Ok
 unfolding settings_of
-returns-in-Sheet c = part_whole c.args.s.now _ _ c.read.ensures _ c.in-Sheet.is
+returns-in-Ok c = part_whole c.args.s.now _ _ c.read.ensures _ c.in-Ok.is
 
-pub returns-in-Refused : goal.returns-in-Refused
-returns-in-Refused c = part_empty c.args.s.now _ _ c.read.ensures _ _ c.in-Refused.is
+pub returns-in-Err : goal.returns-in-Err
+returns-in-Err c = part_empty c.args.s.now _ _ c.read.ensures _ c.in-Err.is

@@ -1,5 +1,4 @@
 use mathlib.Core.Path.{◌≡◌}
-use Prim.Native.Nat.{◌-◌, ◌≤◌}
 use lib.ListN.{length}
 use Rattle.laws.specs.Up.{Filled}
 use Rattle.laws.proofs.Checks.{Scanned}
@@ -8,7 +7,4 @@ use Rattle.sheet.specs.Rules.{conditions}
 use Rattle.judge.proofs.bad_condition.Given as goal
 
 abbrev pub invariant-loop-i : goal.invariant-loop-i
-invariant-loop-i l = (l.i ≤ l.k) × ((length l.masks ≡ 256) × (Filled 0 (mask_at l.cs) l.i l.masks × Scanned (conditions l.m l.k l.cs) l.i))
-
-abbrev pub decreases-loop-i : goal.decreases-loop-i
-decreases-loop-i l = l.k - l.i
+invariant-loop-i l = (length l.masks ≡ 256) × (Filled 0 (mask_at l.cs) l.i l.masks × Scanned (conditions l.m l.k l.cs) l.i)

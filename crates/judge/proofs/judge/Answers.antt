@@ -1,15 +1,15 @@
 use mathlib.Core.Path.{sym, ◌∙◌}
-use Rattle.sheet.specs.Rules.{refusal_of}
+use Rattle.sheet.specs.Rules.{judged}
 use Rattle.judge.proofs.Chain.{sized_lent, sizes_fails, sizes_holds}
 use Rattle.judge.proofs.judge.Goals as goal
 
 pub returns-then-not-sized_ok : goal.returns-then-not-sized_ok
-unfolding refusal_of
+unfolding judged
 returns-then-not-sized_ok c = sizes_fails _ _ _ _ _ (sym c.sized_ok.ensures ∙ c.if-not-sized_ok.true)
 
 pub judge_settings-requires : goal.judge_settings-requires
 judge_settings-requires c = sized_lent _ (sym c.sized_ok.ensures ∙ c.if-not-sized_ok.false)
 
 pub returns : goal.returns
-unfolding refusal_of
+unfolding judged
 returns c = c.judge_settings.ensures ∙ sizes_holds _ _ _ _ _ (sym c.sized_ok.ensures ∙ c.if-not-sized_ok.false)

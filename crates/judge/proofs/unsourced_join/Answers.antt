@@ -1,5 +1,5 @@
 use native.Mathlib.Omega.{arith}
-use mathlib.Core.Path.{sym, ◌∙◌}
+use mathlib.Core.Path.{◌≡◌, sym, ◌∙◌}
 use Rattle.laws.proofs.Checks.{place_end}
 use Rattle.laws.proofs.Lowest.{searched_none, searched_more, searched_stop, searched_end}
 use Rattle.sheet.specs.Rules.{sourced}
@@ -32,4 +32,4 @@ loop-row-preserved c = let l = c.loop-row in
     searched_more _ _ l.row l.invariant c.loop-row-test.true (sym c.wants_within.ensures ∙ c.if-not-wants_within.false)
 
 pub returns : goal.returns
-returns c = searched_end _ _ _ c.loop-row.invariant (omega arith) ∙ searched_sourced _ (sym c.is_compacted.ensures ∙ c.if-is_compacted.false) _ _ c.requires
+returns c = let e : c.args.h.n ≡ c.loop-row.row = omega arith in e ∙ searched_end _ _ _ c.loop-row.invariant (omega arith) ∙ searched_sourced _ (sym c.is_compacted.ensures ∙ c.if-is_compacted.false) _ _ c.requires

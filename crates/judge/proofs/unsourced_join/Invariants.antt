@@ -1,10 +1,6 @@
-use Prim.Native.Nat.{◌-◌}
 use Rattle.laws.proofs.Lowest.{Searched}
 use Rattle.judge.specs.Judge.{row_within}
 use Rattle.judge.proofs.unsourced_join.Given as goal
 
 abbrev pub invariant-loop-row : goal.invariant-loop-row
 invariant-loop-row l = Searched (row_within l.ts l.masks l.linked) l.n l.row
-
-abbrev pub decreases-loop-row : goal.decreases-loop-row
-decreases-loop-row l = l.n - l.row
