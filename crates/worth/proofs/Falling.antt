@@ -185,7 +185,7 @@ module _ (cs : List ℕ) where
 
   module _ (c : Condition) (v : Links) where
     -- from a place to the next at which a row stands
-    sought_next : (rows : List ℕ) (low from at : ℕ) → from ≤ 256 → at ≡ lowest (λ p. not (placed rows p)) from (256 - from) → Sought condition_rows c v (256 - from) (in_set rows) low → Sought condition_rows c v (256 - at) (in_set rows) low
+    pub sought_next : (rows : List ℕ) (low from at : ℕ) → from ≤ 256 → at ≡ lowest (λ p. not (placed rows p)) from (256 - from) → Sought condition_rows c v (256 - from) (in_set rows) low → Sought condition_rows c v (256 - at) (in_set rows) low
     sought_next rows low from at h e p =
         let a : from ≤ at = next_after rows from at e in
         sought_same condition_rows c v (256 - from) (256 - at) (in_set rows) (in_set rows) low
@@ -194,8 +194,8 @@ module _ (cs : List ℕ) where
 
     -- one row
     module _ (rows : List ℕ) (low at : ℕ) (inside : at < 256) (there : placed rows at ≡ true) (p : Sought condition_rows c v (256 - at) (in_set rows) low) where
-      pub sought_more : (rows' : List ℕ) (at' : ℕ) → Adds (is_operand (condition_rows (255 - at))) rows rows' → at' ≡ lowest (λ q. not (placed rows' q)) (at + 1) (256 - (at + 1)) → Sought condition_rows c v (256 - at') (in_set rows') (lowered (condition_rows (255 - at)) v low)
-      sought_more rows' at' m e = sought_next rows' (lowered (condition_rows r) v low) (at + 1) at' (omega arith) e (subst (λ (k : ℕ). Sought condition_rows c v k (in_set rows') (lowered (condition_rows r) v low)) (let z : 255 - at ≡ 256 - (at + 1) = omega arith in z) visited)
+      pub sought_more : (rows' : List ℕ) → Adds (is_operand (condition_rows (255 - at))) rows rows' → Sought condition_rows c v (256 - (at + 1)) (in_set rows') (lowered (condition_rows (255 - at)) v low)
+      sought_more rows' m = subst (λ (k : ℕ). Sought condition_rows c v k (in_set rows') (lowered (condition_rows r) v low)) (let z : 255 - at ≡ 256 - (at + 1) = omega arith in z) visited
         where
           r : ℕ
           r = 255 - at
@@ -213,12 +213,12 @@ module _ (cs : List ℕ) where
               (by_row condition_rows c v r (in_set rows) low here (condition_rows r) (λ l. pending_marked condition_rows (in_set rows) r l is_there))
 
   -- past the last place nothing is to come
-  pub sought_end : (row : ℕ) (v : Links) (rows : List ℕ) (low at : ℕ) → 256 ≤ at → Sought condition_rows (condition condition_rows row) v (256 - at) (in_set rows) low → low ≡ awaited_at cs row v
+  pub sought_end : (row : ℕ) (v : Links) (rows : List ℕ) (low : ℕ) → Sought condition_rows (condition condition_rows row) v 0 (in_set rows) low → low ≡ awaited_at cs row v
   unfolding awaited_at awaited pending
-  sought_end row v rows low at h p =
+  sought_end row v rows low p =
       by_cases (dec_lt low 64)
       (λ h. sym (lowest_is _ 0 64 low (omega arith) (λ j a b. ap not (nothing j b)) (omega arith) (ap not (p.hit h))))
       (λ h. let e : low ≡ 64 = omega (arith, p.small) in e ∙ sym (lowest_none _ 0 64 (λ j a b. ap not (nothing j (omega arith)))))
     where
       nothing : (l : ℕ) → l < low → lacks (condition condition_rows row) v l ≡ false
-      nothing l g = let z : 256 - at ≡ 0 = omega arith in p.rest l g ∙ ap (λ (k : ℕ). pending condition_rows (in_set rows) k l && not (is_set (v l))) z
+      nothing l g = p.rest l g

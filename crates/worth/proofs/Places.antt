@@ -98,36 +98,39 @@ module _ (word from : ℕ) (inside : from < 64) where
 unfoldable pub Clear : List ℕ → ℕ → ℕ → Type 0
 Clear rows from at = (q : ℕ) → from ≤ q → q < at → placed rows q ≡ false
 
-pub clear_none : (rows : List ℕ) (from : ℕ) → Clear rows from from
+pub clear_none : (rows : List ℕ) (from : ℕ) → Clear rows from (from / 64 * 64)
 unfolding Clear
 clear_none rows from q h k = absurd (let z : ⊥ = omega arith in z)
 
--- a word's places, by its first bit
-module _ (rows : List ℕ) (from at bit : ℕ) (clear : Clear rows from at) (found : bit ≡ lowest (λ l. not (has_bit (get_or rows (at / 64) 0) l)) (at % 64) (64 - at % 64)) where
-  clear_upto : (end : ℕ) → end ≤ at / 64 * 64 + bit → end ≤ at / 64 * 64 + 64 → Clear rows from end
+-- a word's places, by its first bit from one on
+module _ (rows : List ℕ) (from word bit : ℕ) (clear : Clear rows from (word * 64)) (found : bit ≡ lowest (λ l. not (has_bit (get_or rows word 0) l)) (from - word * 64) (64 - (from - word * 64))) where
+  abbrev low : ℕ
+  low = from - word * 64
+
+  clear_upto : (end : ℕ) → end ≤ word * 64 + bit → end ≤ word * 64 + 64 → Clear rows from end
   unfolding Clear placed
   clear_upto end b w q h k =
-      by_cases (dec_lt q at) (λ g. clear q h g)
-      (λ g. let e : q / 64 ≡ at / 64 = omega arith in rw e (not-true _ (lowest_below (λ l. not (has_bit (get_or rows (at / 64) 0) l)) (at % 64) (64 - at % 64) (q % 64) (omega arith) (omega (arith, found)))))
+      by_cases (dec_lt q (word * 64)) (λ g. clear q h g)
+      (λ g. let e : q / 64 ≡ word = omega arith in rw e (not-true _ (lowest_below (λ l. not (has_bit (get_or rows word 0) l)) low (64 - low) (q % 64) (omega arith) (omega (arith, found)))))
 
-  pub clear_word : (bit < 64 → ⊥) → Clear rows from (at / 64 * 64 + 64)
-  clear_word h = clear_upto (at / 64 * 64 + 64) (omega arith) (omega arith)
+  pub clear_word : (bit < 64 → ⊥) → Clear rows from ((word + 1) * 64)
+  clear_word h = clear_upto ((word + 1) * 64) (omega arith) (omega arith)
 
-  pub next_here : from ≤ at → at < 256 → bit < 64 → at / 64 * 64 + bit ≡ lowest (λ p. not (placed rows p)) from (256 - from)
+  pub next_here : word < 4 → bit < 64 → word * 64 + bit ≡ lowest (λ p. not (placed rows p)) from (256 - from)
   unfolding Clear placed
-  next_here before inside h =
-      let low : at % 64 ≤ bit = rw found (lowest_from (λ l. not (has_bit (get_or rows (at / 64) 0) l)) (at % 64) (64 - at % 64)) in
-      let e : (at / 64 * 64 + bit) / 64 ≡ at / 64 = omega arith in
-      let d : (at / 64 * 64 + bit) % 64 ≡ bit = omega arith in
-      sym (lowest_is (λ p. not (placed rows p)) from (256 - from) (at / 64 * 64 + bit) (omega arith)
-      (λ q a b. ap not (clear_upto (at / 64 * 64 + bit) (omega arith) (omega arith) q a b))
+  next_here inside h =
+      let least : low ≤ bit = rw found (lowest_from (λ l. not (has_bit (get_or rows word 0) l)) low (64 - low)) in
+      let e : (word * 64 + bit) / 64 ≡ word = omega arith in
+      let d : (word * 64 + bit) % 64 ≡ bit = omega arith in
+      sym (lowest_is (λ p. not (placed rows p)) from (256 - from) (word * 64 + bit) (omega arith)
+      (λ q a b. ap not (clear_upto (word * 64 + bit) (omega arith) (omega arith) q a b))
       (omega arith)
-      (rw (e, d) (ap not (ap (has_bit (get_or rows (at / 64) 0)) found ∙ not-false _ (lowest_at (λ l. not (has_bit (get_or rows (at / 64) 0) l)) (at % 64) (64 - at % 64) (omega (arith, found)))))))
+      (rw (e, d) (ap not (ap (has_bit (get_or rows word 0)) found ∙ not-false _ (lowest_at (λ l. not (has_bit (get_or rows word 0) l)) low (64 - low) (omega (arith, found)))))))
 
 -- past the last word there is none
-pub next_none : (rows : List ℕ) (from at : ℕ) → Clear rows from at → from ≤ 256 → 256 ≤ at → 256 ≡ lowest (λ p. not (placed rows p)) from (256 - from)
+pub next_none : (rows : List ℕ) (from : ℕ) → Clear rows from 256 → from ≤ 256 → 256 ≡ lowest (λ p. not (placed rows p)) from (256 - from)
 unfolding Clear
-next_none rows from at clear h k =
+next_none rows from clear h =
     let z : from + (256 - from) ≡ 256 = omega arith in
     sym (lowest_none (λ p. not (placed rows p)) from (256 - from) (λ q g l. ap not (clear q g (omega arith))) ∙ z)
 

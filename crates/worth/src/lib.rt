@@ -2,10 +2,10 @@
 
 #![tactic(auto)]
 
-ghost use Rattle.std.specs.Prelude.{◌≡◌, not, ◌++◌, map, ℕ, ◌+◌, ◌-◌, ◌*◌, ◌<◌, ◌≤◌, eqb, length, get_or, drop};
+ghost use Rattle.std.specs.Prelude.{◌≡◌, not, ◌++◌, map, ℕ, ◌+◌, ◌-◌, ◌*◌, ◌<◌, ◌≤◌, eqb, length, get_or, drop, MatchOption, IfSome};
 ghost use Rattle.laws.specs.Lowest.{lowest};
 ghost use Rattle.conditions.specs.Numbers.{undigit};
-ghost use Rattle.sheet.specs.Table.{condition_row_by, condition_row_at};
+ghost use Rattle.sheet.specs.Table.{condition_row_at};
 ghost use Rattle.reach.specs.Masks.{has_bit};
 ghost use Rattle.evaluate.specs.Values.{links_in, value_in};
 ghost use Rattle.worth.specs.Sets.{placed, in_set, Adds};
@@ -13,6 +13,7 @@ ghost use Rattle.worth.specs.Worth.{awaited_at, worth_by, wait_byte};
 ghost use Rattle.worth.specs.Pass.{is_operand, lower_by, lowered, condition_byte, byte_of, RowLent};
 
 use evaluate::Values;
+use rows::condition::{ConditionRow, condition_row};
 
 // The value of a condition; where it is unset, with the lowest unset link reached from it.
 #[derive(Clone, Copy)]
@@ -35,7 +36,7 @@ fn add(rows: &mut Rows, row: u8)
 {
     let place = 255 - row;
     let at = (place / 64) as usize;
-    rows[at] = rows[at] | 1 << (place % 64);
+    rows[at] |= 1 << (place % 64);
 }
 
 // Whether a row is in the set.
@@ -58,21 +59,18 @@ fn first_bit(word: u64, from: usize) -> usize
     from + u64::trailing_zeros(rest) as usize
 }
 
-// The first place from one on at which a row stands; 256 where there is none.
-fn next(rows: &Rows, from: usize) -> usize
+// The first place from one on at which a row stands.
+fn next(rows: &Rows, from: usize) -> Option<usize>
     requires { from ≤ 256 }
-    ensures { result ≡ lowest (λ p. not (placed rows.now p)) from (256 - from) }
+    ensures { MatchOption result (256 ≡ lowest (λ p. not (placed rows.now p)) from (256 - from)) (λ at. (at < 256) × (at ≡ lowest (λ p. not (placed rows.now p)) from (256 - from))) }
 {
-    let mut at = from;
-    while at < 256 {
-        let word = at / 64;
-        let bit = first_bit(rows[word], at % 64);
+    for word in from / 64..4 {
+        let bit = first_bit(rows[word], from.saturating_sub(word * 64));
         if bit < 64 {
-            return word * 64 + bit;
+            return Some(word * 64 + bit);
         }
-        at = word * 64 + 64;
     }
-    256
+    None
 }
 
 // The lower of two links, of which the first counts where it is unset.
@@ -80,42 +78,27 @@ fn lower(links: &[u8; 64], l: u8, low: u8) -> u8
     requires { low ≤ 64 }
     ensures { result ≡ lower_by (links_in links.now) l low }
 {
-    if low <= l {
-        return low;
+    if l < low && links[l as usize] == 0 {
+        l
+    } else {
+        low
     }
-    if links[l as usize] == 0 {
-        return l;
-    }
-    low
 }
 
-// A row that is reached, by its bytes: an operator adds its operands, a link that is unset may be the lowest.
-fn visit_by(kind: u8, a: u8, b: u8, links: &[u8; 64], low: u8, rows: &mut Rows) -> u8
-    requires { (low ≤ 64) × (length rows.old ≡ 4) }
-    ensures { (result ≡ lowered (condition_row_by kind a b) (links_in links.now) low) × Adds (is_operand (condition_row_by kind a b)) rows.old rows.new }
+// A row that is reached: an operator adds its operands, a link that is unset may be the lowest.
+fn visit(cs: &[u8], row: usize, links: &[u8; 64], low: u8, rows: &mut Rows) -> u8
+    requires { (row * 4 + 4 ≤ length cs.now) × ((low ≤ 64) × (length rows.old ≡ 4)) }
+    ensures { (result ≡ lowered (condition_row_at cs.now row) (links_in links.now) low) × Adds (is_operand (condition_row_at cs.now row)) rows.old rows.new }
 {
-    match kind {
-        0 => low,
-        1 => low,
-        2 => lower(links, a, low),
-        _ => {
-            if 7 <= kind {
-                return low;
-            }
+    match condition_row(cs, row) {
+        ConditionRow::False | ConditionRow::True => low,
+        ConditionRow::Link(l) => lower(links, l, low),
+        ConditionRow::Operation(_, a, b) => {
             add(rows, a);
             add(rows, b);
             low
         }
     }
-}
-
-// A row that is reached.
-fn visit(cs: &[u8], row: usize, links: &[u8; 64], low: u8, rows: &mut Rows) -> u8
-    requires { (row * 4 + 4 ≤ length cs.now) × ((low ≤ 64) × (length rows.old ≡ 4)) }
-    ensures { (result ≡ lowered (condition_row_at cs.now row) (links_in links.now) low) × Adds (is_operand (condition_row_at cs.now row)) rows.old rows.new }
-{
-    let at = row * 4;
-    visit_by(cs[at], cs[at + 1], cs[at + 2], links, low, rows)
 }
 
 // The lowest unset link reached from a row, 64 where there is none. Only rows that are reached are looked at, in falling order: an operand that is not below its row is never come to.
@@ -126,10 +109,10 @@ fn awaited(cs: &[u8], row: u8, links: &[u8; 64]) -> u8
     let mut rows = [0; 4];
     add(&mut rows, row);
     let mut low = 64;
-    let mut at = 255 - row as usize;
-    while at < 256 {
+    let mut from = 255 - row as usize;
+    while let Some(at) = next(&rows, from) {
         low = visit(cs, 255 - at, links, low, &mut rows);
-        at = next(&rows, at + 1);
+        from = at + 1;
     }
     low
 }
@@ -152,8 +135,7 @@ fn byte(worth: Worth) -> u8
 {
     match worth {
         Worth::Unset(l) => l,
-        Worth::False => NO_LINK,
-        Worth::True => NO_LINK,
+        Worth::False | Worth::True => NO_LINK,
     }
 }
 
@@ -165,30 +147,20 @@ fn condition_byte(ts: &[u8], row: u8) -> u8
     ts[row as usize * 4 + 1]
 }
 
-// Of the JOIN rows before place `end`, the first on a condition; `end` where there is none.
-fn first_on(q: u8, ts: &[u8], joins: &[u8], end: usize) -> usize
-    requires { (end ≤ length joins.now) × ((i : ℕ) → i < end → get_or joins.now i 0 * 4 + 4 ≤ length ts.now) }
-    ensures { result ≡ lowest (λ i. not (eqb (condition_byte ts.now (get_or joins.now i 0)) q)) 0 end }
-{
-    let mut i = 0;
-    while i < end {
-        if condition_byte(ts, joins[i]) == q {
-            return i;
-        }
-        i += 1;
-    }
-    end
-}
-
-// The first JOIN row before place `end` on a condition that has been asked, whose byte is known; `end` where there is none. The set of those asked only saves time: the byte is right whatever it holds.
-fn told_at(asked: &Rows, q: u8, ts: &[u8], joins: &[u8], end: usize) -> usize
-    requires { (end ≤ length joins.now) × ((i : ℕ) → i < end → get_or joins.now i 0 * 4 + 4 ≤ length ts.now) }
-    ensures { (result ≤ end) × (result < end → condition_byte ts.now (get_or joins.now result 0) ≡ q) }
+// Of the JOIN rows before another, the place of one on a condition that has been asked, whose byte is known. The set of those asked only saves time: the byte is right whatever it holds.
+fn told_at(asked: &Rows, q: u8, ts: &[u8], joins: &[u8]) -> Option<usize>
+    requires { (i : ℕ) → i < length joins.now → get_or joins.now i 0 * 4 + 4 ≤ length ts.now }
+    ensures { IfSome result (λ i. (i < length joins.now) × (condition_byte ts.now (get_or joins.now i 0) ≡ q)) }
 {
     if !is_in(asked, q) {
-        return end;
+        return None;
     }
-    first_on(q, ts, joins, end)
+    for (i, row) in joins.iter().enumerate() {
+        if condition_byte(ts, *row) == q {
+            return Some(i);
+        }
+    }
+    None
 }
 
 // For each JOIN row of a list the byte that is told of it, to a lent buffer; each condition is searched once.
@@ -197,17 +169,14 @@ pub fn tell(ts: &[u8], cs: &[u8], links: &[u8; 64], vals: &Values, joins: &[u8],
     ensures { out.new ≡ map (byte_of ts.now cs.now links.now vals.now) joins.now ++ drop (length joins.now) out.old }
 {
     let mut asked = [0; 4];
-    let mut i = 0;
-    while i < joins.len() {
-        let q = condition_byte(ts, joins[i]);
-        let first = told_at(&asked, q, ts, joins, i);
-        if first < i {
-            out[i] = out[first];
-            i += 1;
-        } else {
-            out[i] = byte(of_row(vals, cs, q, links));
-            add(&mut asked, q);
-            i += 1;
-        }
+    for (i, row) in joins.iter().enumerate() {
+        let q = condition_byte(ts, *row);
+        out[i] = match told_at(&asked, q, ts, &joins[..i]) {
+            Some(first) => out[first],
+            None => {
+                add(&mut asked, q);
+                byte(of_row(vals, cs, q, links))
+            }
+        };
     }
 }

@@ -1,4 +1,5 @@
 use Rattle.worth.proofs.Values.{worth_0, worth_1, worth_2}
+use native.Mathlib.Omega.{arith}
 use mathlib.Core.Path.{sym, ◌∙◌}
 use Rattle.worth.proofs.of_row.Goals as goal
 
@@ -9,4 +10,4 @@ pub returns-in-1 : goal.returns-in-1
 returns-in-1 c = worth_1 _ _ (sym c.value_in.ensures ∙ c.in-1.is)
 
 pub returns-in_default : goal.returns-in_default
-returns-in_default c = let e = c.value_in.ensures in worth_2 _ _ (λ z. c.in_default.in_default-own.rest.0.1 (e ∙ z)) (λ z. c.in_default.in_default-own.rest.1 (e ∙ z))
+returns-in_default c = let e = c.value_in.ensures in worth_2 _ _ (λ z. omega (arith, e, z)) (λ z. omega (arith, e, z))

@@ -1,4 +1,3 @@
-use Prim.Native.Nat.{◌-◌, ◌≤◌}
 use mathlib.Core.Path.{◌≡◌}
 use lib.ListN.{length}
 use Rattle.worth.specs.Pass.{byte_of}
@@ -6,7 +5,4 @@ use Rattle.worth.proofs.Telling.{Telling}
 use Rattle.worth.proofs.tell.Given as goal
 
 abbrev pub invariant-loop-i : goal.invariant-loop-i
-invariant-loop-i l = (length l.asked ≡ 4) × ((l.i ≤ length l.joins) × Telling (byte_of l.ts l.cs l.links l.vals) l.joins l.i l.out l.initial.out)
-
-abbrev pub decreases-loop-i : goal.decreases-loop-i
-decreases-loop-i l = length l.joins - l.i
+invariant-loop-i l = (length l.asked ≡ 4) × Telling (byte_of l.ts l.cs l.links l.vals) l.joins l.i l.out l.initial.out
