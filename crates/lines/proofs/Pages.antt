@@ -1,5 +1,5 @@
 -- Bytes added to a page one after another, and the page on which all find room. Assumes nothing.
-use mathlib.Core.Path.{◌≡◌, refl, sym, ap, ◌∙◌}
+use mathlib.Core.Path.{◌≡◌, refl, sym, ap, subst, ◌∙◌}
 use mathlib.Core.Bool.{Bool, true, false, cond}
 use mathlib.Core.List.{List, [], ◌∷◌, ◌++◌}
 use Prim.Native.Nat.{ℕ, suc, ◌+◌, ◌≤◌, ◌<◌}
@@ -10,7 +10,8 @@ use lib.ListN.{length, set, length-set, drop, take, drop_of_length-le, get_or}
 use lib.Seq.{drop-cons, sets, sets-eq}
 use borrow.Author.Tests.{lt-ltb, le-ltb, le-leb, ne_eqb}
 use Rattle.laws.specs.Listed.{written}
-use Rattle.lines.specs.Page.{Page, page, more, added}
+use Rattle.lines.specs.declared.Page as lent
+use Rattle.lines.specs.Page.{Page, page, more, added, page_of, Puts}
 use Rattle.lines.specs.Lines.{field, fields, feed, letter, letters, links_word, links_line, wait_field, wait_fields}
 
 pub added_append : (p : Page) (xs ys : List ℕ) → added (added p xs) ys ≡ added p (xs ++ ys)
@@ -19,19 +20,22 @@ added_append p [] ys = refl
 added_append p (x ∷ xs) ys = added_append (more p x) xs ys
 
 -- xs, and then ys
-pub then : (p q r : Page) (xs ys : List ℕ) → q ≡ added p xs → r ≡ added q ys → r ≡ added p (xs ++ ys)
-then p q r xs ys e f = f ∙ ap (λ (z : Page). added z ys) e ∙ added_append p xs ys
+pub then : {p q r : lent.Page} {xs ys : List ℕ} → Puts p q xs → Puts q r ys → Puts p r (xs ++ ys)
+then {p} {q} {r} {xs} {ys} e f = record {
+  same = f.same ∙ e.same;
+  put = f.put ∙ ap (λ (z : Page). added z ys) e.put ∙ added_append (page_of p) xs ys;
+}
 
-pub byte : (p q : Page) (x : ℕ) → q ≡ more p x → q ≡ added p (x ∷ [])
-unfolding added
-byte p q x e = e
+-- the same bytes, said in other words
+pub puts_as : {p q : lent.Page} {xs ys : List ℕ} → Puts p q xs → xs ≡ ys → Puts p q ys
+puts_as {p} {q} e f = subst (Puts p q) f e
 
-pub more_room : (b : List ℕ) (e x : ℕ) → e < length b → page (set b e x) (e + 1) ≡ more (page b e) x
-unfolding more
+pub more_room : (b : List ℕ) (e x : ℕ) → e < length b → page (set b e x) (e + 1) ≡ added (page b e) (x ∷ [])
+unfolding more added
 more_room b e x h = rw (lt-ltb e (length b) h)
 
-pub more_full : (b : List ℕ) (e x : ℕ) → length b ≤ e → page b e ≡ more (page b e) x
-unfolding more
+pub more_full : (b : List ℕ) (e x : ℕ) → length b ≤ e → page b e ≡ added (page b e) (x ∷ [])
+unfolding more added
 more_full b e x h = rw (le-ltb e (length b) h)
 
 more_length : (p : Page) (x : ℕ) → length (more p x).bytes ≡ length p.bytes
@@ -50,30 +54,36 @@ added_length p (x ∷ xs) = added_length (more p x) xs ∙ more_length p x
 pub kept_length : (b₀ b : List ℕ) (e₀ e : ℕ) (xs : List ℕ) → page b e ≡ added (page b₀ e₀) xs → length b ≡ length b₀
 kept_length b₀ b e₀ e xs h = ap (λ (p : Page). length p.bytes) h ∙ added_length (page b₀ e₀) xs
 
--- a text that is added a piece a turn: what is left, added to what is there, gives the whole
-pub record Adding (b₀ : List ℕ) (e₀ : ℕ) (xs : List ℕ) (b : List ℕ) (e : ℕ) (ys : List ℕ) : Type 0 where
-  pub kept : length b ≡ length b₀
-  pub rest : added (page b e) ys ≡ added (page b₀ e₀) xs
+-- a text that is put a piece a turn: what is left, added to what is there, gives the whole
+pub record Putting (p : lent.Page) (xs : List ℕ) (q : lent.Page) (ys : List ℕ) : Type 0 where
+  pub same : q.out.ghost_name ≡ p.out.ghost_name
+  pub rest : added (page_of q) ys ≡ added (page_of p) xs
 
-pub adding_none : (b : List ℕ) (e : ℕ) (xs : List ℕ) → Adding b e xs b e xs
-adding_none b e xs = record { kept = refl; rest = refl }
+pub none_put : (p : lent.Page) (xs : List ℕ) → Putting p xs p xs
+none_put p xs = record { same = refl; rest = refl }
 
-pub adding_more : (b₀ : List ℕ) (e₀ : ℕ) (xs b c : List ℕ) (e f : ℕ) (us vs zs : List ℕ) → Adding b₀ e₀ xs b e zs → zs ≡ us ++ vs → page c f ≡ added (page b e) us → Adding b₀ e₀ xs c f vs
-adding_more b₀ e₀ xs b c e f us vs zs a s h = record {
-  kept = kept_length b c e f us h ∙ a.kept;
-  rest = ap (λ (p : Page). added p vs) h ∙ added_append (page b e) us vs ∙ ap (added (page b e)) (sym s) ∙ a.rest;
+pub more_put : {p q r : lent.Page} {xs us vs zs : List ℕ} → Putting p xs q zs → zs ≡ us ++ vs → Puts q r us → Putting p xs r vs
+more_put {p} {q} {r} {xs} {us} {vs} a s h = record {
+  same = h.same ∙ a.same;
+  rest = ap (λ (z : Page). added z vs) h.put ∙ added_append (page_of q) us vs ∙ ap (added (page_of q)) (sym s) ∙ a.rest;
 }
 
-pub adding_all : (b₀ : List ℕ) (e₀ : ℕ) (xs b : List ℕ) (e : ℕ) (ys : List ℕ) → Adding b₀ e₀ xs b e ys → ys ≡ [] → page b e ≡ added (page b₀ e₀) xs
+pub all_put : {p q r : lent.Page} {xs ys : List ℕ} → Putting p xs q ys → Puts q r ys → Puts p r xs
+all_put a e = record { same = e.same ∙ a.same; put = e.put ∙ a.rest }
+
+pub nothing_put : (p : lent.Page) → Puts p p []
 unfolding added
-adding_all b₀ e₀ xs b e ys a s = ap (added (page b e)) (sym s) ∙ a.rest
+nothing_put p = record { same = refl; put = refl }
+
+pub end_put : {p q : lent.Page} {xs ys : List ℕ} → Putting p xs q ys → ys ≡ [] → Puts p q xs
+end_put {p} {q} a s = all_put a (puts_as (nothing_put q) (sym s))
 
 -- the next of a list
-pub next : (xs : List ℕ) (i : ℕ) → i < length xs → drop i xs ≡ get_or xs i 0 ∷ drop (i + 1) xs
+pub next : (xs : List ℕ) (i : ℕ) → i < length xs → drop i xs ≡ (get_or xs i 0 ∷ []) ++ drop (i + 1) xs
 next xs i h = drop-cons xs i 0 h ∙ ap (λ (j : ℕ). get_or xs i 0 ∷ drop j xs) (sym (add-one i))
 
 -- what is left of a list's letters, and of its fields
-pub letters_next : (xs : List ℕ) (i : ℕ) → i < length xs → letters (drop i xs) ≡ letter (get_or xs i 0) ∷ letters (drop (i + 1) xs)
+pub letters_next : (xs : List ℕ) (i : ℕ) → i < length xs → letters (drop i xs) ≡ (letter (get_or xs i 0) ∷ []) ++ letters (drop (i + 1) xs)
 unfolding letters
 letters_next xs i h = ap letters (next xs i h)
 
@@ -93,14 +103,6 @@ fields_end xs i h = ap fields (drop_of_length-le xs h)
 pub waits_next : (rows links : List ℕ) (i : ℕ) → i < length rows → i < length links → wait_fields (drop i rows) (drop i links) ≡ field (get_or rows i 0) ++ (wait_field (get_or links i 0) ++ wait_fields (drop (i + 1) rows) (drop (i + 1) links))
 unfolding wait_fields
 waits_next rows links i h k = ap (λ (xs : List ℕ). wait_fields xs (drop i links)) (next rows i h) ∙ ap (wait_fields (get_or rows i 0 ∷ drop (i + 1) rows)) (next links i k)
-
--- one row more, and what it waits for
-pub adding_wait : (b₀ : List ℕ) (e₀ : ℕ) (xs rows links b c d : List ℕ) (e f g i : ℕ) → i < length rows → length rows ≤ length links
-    → Adding b₀ e₀ xs b e (wait_fields (drop i rows) (drop i links))
-    → page c f ≡ added (page b e) (field (get_or rows i 0))
-    → page d g ≡ added (page c f) (wait_field (get_or links i 0))
-    → Adding b₀ e₀ xs d g (wait_fields (drop (i + 1) rows) (drop (i + 1) links))
-adding_wait b₀ e₀ xs rows links b c d e f g i h k a r l = adding_more _ _ _ _ _ _ _ _ _ _ (adding_more _ _ _ _ _ _ _ _ _ _ a (waits_next rows links i h (omega (arith, h, k))) r) refl l
 
 pub waits_end : (rows links : List ℕ) (i : ℕ) → length rows ≤ i → wait_fields (drop i rows) (drop i links) ≡ []
 unfolding wait_fields

@@ -2,243 +2,236 @@
 
 #![tactic(auto)]
 
-ghost use Rattle.std.specs.Prelude.{◌≡◌, ◌≤◌, length};
-ghost use Rattle.lines.specs.Page.{page, more, added};
-ghost use Rattle.lines.specs.Lines.{decimal, field, fields, named_line, step_line, verdict_line, refused_line, letter, letters, links_line, enabled_word, rows_line, wait_field, wait_fields, waiting_line, finished_line};
-ghost use Rattle.state.specs.declared.StepKind.TheVariants.{Act, Set};
+ghost use Rattle.std.specs.Prelude.{◌≡◌, ◌≤◌, [], ◌∷◌, length};
+ghost use Rattle.lines.specs.Page.{page, Puts};
+ghost use Rattle.lines.specs.Lines.{decimal, feed, field, fields, named_line, step_line, verdict_line, refused_line, letter, letters, links_line, enabled_word, rows_line, wait_field, wait_fields, waiting_line, finished_line};
 ghost use Rattle.sheet_engine.specs.declared.VerdictAnswer.TheVariants.{Fail};
 
 use sheet_engine::VerdictAnswer;
 use state::StepKind;
 
-// One more byte, where there is room.
-fn put(out: &mut [u8], at: usize, x: u8) -> usize
-    ensures { page out.new result ≡ more (page out.old at) x }
-{
-    if at < out.len() {
-        out[at] = x;
-        return at + 1;
-    }
-    at
-}
-
-// The bytes, one after another.
-fn text(out: &mut [u8], at: usize, bytes: &[u8]) -> usize
-    ensures { page out.new result ≡ added (page out.old at) bytes.now }
-{
-    let mut end = at;
-    let mut i = 0;
-    while i < bytes.len() {
-        end = put(out, end, bytes[i]);
-        i += 1;
-    }
-    end
-}
-
-// The digits of x, from the highest on.
-fn digits(out: &mut [u8], at: usize, x: usize) -> usize
-    ensures { page out.new result ≡ added (page out.old at) (decimal x) }
-{
-    if x < 10 {
-        return put(out, at, 48 + x as u8);
-    }
-    let end = digits(out, at, x / 10);
-    put(out, end, 48 + (x % 10) as u8)
-}
-
-// A space and a number.
-fn number(out: &mut [u8], at: usize, x: usize) -> usize
-    ensures { page out.new result ≡ added (page out.old at) (field x) }
-{
-    let end = put(out, at, 32);
-    digits(out, end, x)
-}
-
-// A space and a byte as a number.
-fn small_number(out: &mut [u8], at: usize, x: u8) -> usize
-    ensures { page out.new result ≡ added (page out.old at) (field x) }
-{
-    number(out, at, x as usize)
-}
-
-// Numbers, each behind a space.
-fn numbers(out: &mut [u8], at: usize, xs: &[u8]) -> usize
-    ensures { page out.new result ≡ added (page out.old at) (fields xs.now) }
-{
-    let mut end = at;
-    let mut i = 0;
-    while i < xs.len() {
-        end = small_number(out, end, xs[i]);
-        i += 1;
-    }
-    end
-}
-
-// A refusal: its number and its place.
-pub fn refused_line(out: &mut [u8], at: usize, no: u8, place: usize) -> usize
-    ensures { page out.new result ≡ added (page out.old at) (refused_line no place) }
-{
-    let said = text(out, at, b"refused");
-    let numbered = small_number(out, said, no);
-    let placed = number(out, numbered, place);
-    put(out, placed, 10)
-}
-
-// A failing verdict: row, number and link.
-fn fail_line(out: &mut [u8], at: usize, row: usize, no: usize, link: usize) -> usize
-    ensures { page out.new result ≡ added (page out.old at) (verdict_line (Fail row no link)) }
-{
-    let said = text(out, at, b"verdict fail");
-    let rowed = number(out, said, row);
-    let numbered = number(out, rowed, no);
-    let linked = number(out, numbered, link);
-    put(out, linked, 10)
-}
-
-// The verdict, or the refusal of the table.
-pub fn verdict_line(out: &mut [u8], at: usize, verdict: VerdictAnswer) -> usize
-    ensures { page out.new result ≡ added (page out.old at) (verdict_line verdict) }
-{
-    match verdict {
-        VerdictAnswer::Pass => text(out, at, b"verdict pass\n"),
-        VerdictAnswer::Fail { row, number, link } => fail_line(out, at, row, number, link),
-        VerdictAnswer::Refused(number, place) => refused_line(out, at, number, place),
-    }
-}
-
-// A step, its row, what it is called and its values.
-fn named_line(out: &mut [u8], at: usize, row: u8, word: &[u8], values: &[u8]) -> usize
-    ensures { page out.new result ≡ added (page out.old at) (named_line row word.now values.now) }
-{
-    let said = text(out, at, b"step");
-    let rowed = small_number(out, said, row);
-    let named = text(out, rowed, word);
-    let valued = numbers(out, named, values);
-    put(out, valued, 10)
-}
-
-// An activity that is done.
-fn act_line(out: &mut [u8], at: usize, row: u8, a: u8) -> usize
-    ensures { page out.new result ≡ added (page out.old at) (step_line row (Act a)) }
-{
-    let values = [a];
-    named_line(out, at, row, b" act", &values)
-}
-
-// A link that is set, with the row's 0 or 1.
-fn set_line(out: &mut [u8], at: usize, row: u8, l: u8, v: u8) -> usize
-    ensures { page out.new result ≡ added (page out.old at) (step_line row (Set l v)) }
-{
-    let values = [l, v];
-    named_line(out, at, row, b" set", &values)
-}
-
-// The line of a step, or of its refusal.
-pub fn step_line(out: &mut [u8], at: usize, row: u8, kind: StepKind) -> usize
-    ensures { page out.new result ≡ added (page out.old at) (step_line row kind) }
-{
-    match kind {
-        StepKind::Act(a) => act_line(out, at, row, a),
-        StepKind::Set(l, v) => set_line(out, at, row, l, v),
-        StepKind::Open => named_line(out, at, row, b" open", b""),
-        StepKind::Clean => named_line(out, at, row, b" clean", b""),
-        StepKind::Refused(number, place) => refused_line(out, at, number, place),
-    }
+// A lent buffer, and how many bytes are put on it.
+#[derive(Drop)]
+pub struct Page<'a> {
+    out: &'a mut [u8],
+    at: usize,
 }
 
 // The letter of a link's value: u, f or t.
+#[tactic(auto, unfolding(crate::specs::Lines::letter))]
 fn letter_of(x: u8) -> u8
     ensures { result ≡ letter x }
 {
-    if x == 0 {
-        return 117;
+    match x {
+        0 => b'u',
+        1 => b'f',
+        _ => b't',
     }
-    if x == 1 {
-        return 102;
+}
+
+impl<'a> Page<'a> {
+    // A buffer on which nothing is put yet.
+    pub fn new(out: &'a mut [u8]) -> Page<'a>
+        ensures same { result.out.ghost_name ≡ out.entry.ghost_name }
+        ensures empty { page result.out.now result.at ≡ page out.old 0 }
+    {
+        Page { out, at: 0 }
     }
-    116
-}
 
-// A letter for each value, not parted.
-fn put_letters(out: &mut [u8], at: usize, xs: &[u8]) -> usize
-    ensures { page out.new result ≡ added (page out.old at) (letters xs.now) }
-{
-    let mut end = at;
-    let mut i = 0;
-    while i < xs.len() {
-        end = put(out, end, letter_of(xs[i]));
-        i += 1;
+    // How many bytes are put.
+    pub fn len(&self) -> usize
+        ensures { result ≡ self.now.at }
+    {
+        self.at
     }
-    end
-}
 
-// The first m links; nothing behind the word where m is 0.
-pub fn links_line(out: &mut [u8], at: usize, m: usize, values: &[u8]) -> usize
-    requires { m ≤ length values.now }
-    ensures { page out.new result ≡ added (page out.old at) (links_line m values.now) }
-{
-    if m == 0 {
-        return text(out, at, b"links\n");
+    // One more byte, where there is room.
+    fn put(&mut self, x: u8)
+        ensures { Puts self.old self.new (x ∷ []) }
+    {
+        let at = self.at;
+        if at < self.out.len() {
+            self.out[at] = x;
+            self.at = at + 1;
+        }
     }
-    let said = text(out, at, b"links ");
-    let lettered = put_letters(out, said, &values[..m]);
-    put(out, lettered, 10)
-}
 
-// A word, and rows.
-fn rows_line(out: &mut [u8], at: usize, word: &[u8], rows: &[u8]) -> usize
-    ensures { page out.new result ≡ added (page out.old at) (rows_line word.now rows.now) }
-{
-    let said = text(out, at, word);
-    let listed = numbers(out, said, rows);
-    put(out, listed, 10)
-}
-
-// The rows that have a step.
-pub fn enabled_line(out: &mut [u8], at: usize, rows: &[u8]) -> usize
-    ensures { page out.new result ≡ added (page out.old at) (rows_line enabled_word rows.now) }
-{
-    rows_line(out, at, b"enabled", rows)
-}
-
-// A space and a link, or "-" where there is none to wait for.
-fn link_waited(out: &mut [u8], at: usize, l: u8) -> usize
-    ensures { page out.new result ≡ added (page out.old at) (wait_field l) }
-{
-    if l == worth::NO_LINK {
-        return text(out, at, b" -");
+    // The bytes, one after another.
+    fn text(&mut self, bytes: &[u8])
+        ensures { Puts self.old self.new bytes.now }
+    {
+        for byte in bytes {
+            self.put(*byte);
+        }
     }
-    small_number(out, at, l)
-}
 
-// Rows, each followed by what it waits for.
-fn rows_waiting(out: &mut [u8], at: usize, rows: &[u8], links: &[u8]) -> usize
-    requires { length rows.now ≤ length links.now }
-    ensures { page out.new result ≡ added (page out.old at) (wait_fields rows.now links.now) }
-{
-    let mut end = at;
-    let mut i = 0;
-    while i < rows.len() {
-        end = small_number(out, end, rows[i]);
-        end = link_waited(out, end, links[i]);
-        i += 1;
+    // The digits of x, from the highest on.
+    fn digits(&mut self, x: usize)
+        ensures { Puts self.old self.new (decimal x) }
+    {
+        if x < 10 {
+            self.put(b'0' + x as u8);
+            return;
+        }
+        self.digits(x / 10);
+        self.put(b'0' + (x % 10) as u8)
     }
-    end
-}
 
-// The JOIN rows that are waited for, each with its link.
-pub fn waiting_line(out: &mut [u8], at: usize, rows: &[u8], links: &[u8]) -> usize
-    requires { length rows.now ≤ length links.now }
-    ensures { page out.new result ≡ added (page out.old at) (waiting_line rows.now links.now) }
-{
-    let said = text(out, at, b"waiting");
-    let listed = rows_waiting(out, said, rows, links);
-    put(out, listed, 10)
-}
+    // A space and a number.
+    fn number(&mut self, x: usize)
+        ensures { Puts self.old self.new (field x) }
+    {
+        self.put(b' ');
+        self.digits(x);
+    }
 
-// Nothing is left to do.
-pub fn finished_line(out: &mut [u8], at: usize) -> usize
-    ensures { page out.new result ≡ added (page out.old at) finished_line }
-{
-    text(out, at, b"finished\n")
+    // Numbers, each behind a space.
+    fn numbers(&mut self, xs: &[u8])
+        ensures { Puts self.old self.new (fields xs.now) }
+    {
+        for x in xs {
+            self.number(*x as usize);
+        }
+    }
+
+    // The line's end.
+    fn feed(&mut self)
+        ensures { Puts self.old self.new feed }
+    {
+        self.put(b'\n');
+    }
+
+    // A refusal: its number and its place.
+    pub fn refused_line(&mut self, no: u8, place: usize)
+        ensures { Puts self.old self.new (refused_line no place) }
+    {
+        self.text(b"refused");
+        self.number(no as usize);
+        self.number(place);
+        self.feed();
+    }
+
+    // A failing verdict: row, number and link.
+    fn fail_line(&mut self, row: usize, no: usize, link: usize)
+        ensures { Puts self.old self.new (verdict_line (Fail row no link)) }
+    {
+        self.text(b"verdict fail");
+        self.number(row);
+        self.number(no);
+        self.number(link);
+        self.feed();
+    }
+
+    // The verdict, or the refusal of the table.
+    pub fn verdict_line(&mut self, verdict: VerdictAnswer)
+        ensures { Puts self.old self.new (verdict_line verdict) }
+    {
+        match verdict {
+            VerdictAnswer::Pass => self.text(b"verdict pass\n"),
+            VerdictAnswer::Fail { row, number, link } => self.fail_line(row, number, link),
+            VerdictAnswer::Refused(number, place) => self.refused_line(number, place),
+        }
+    }
+
+    // A step, its row, what it is called and its values.
+    fn named_line(&mut self, row: u8, word: &[u8], values: &[u8])
+        ensures { Puts self.old self.new (named_line row word.now values.now) }
+    {
+        self.text(b"step");
+        self.number(row as usize);
+        self.text(word);
+        self.numbers(values);
+        self.feed();
+    }
+
+    // The line of a step, or of its refusal.
+    pub fn step_line(&mut self, row: u8, kind: StepKind)
+        ensures { Puts self.old self.new (step_line row kind) }
+    {
+        match kind {
+            StepKind::Act(a) => self.named_line(row, b" act", &[a]),
+            StepKind::Set(l, v) => self.named_line(row, b" set", &[l, v]),
+            StepKind::Open => self.named_line(row, b" open", b""),
+            StepKind::Clean => self.named_line(row, b" clean", b""),
+            StepKind::Refused(number, place) => self.refused_line(number, place),
+        }
+    }
+
+    // A letter for each value, not parted.
+    fn put_letters(&mut self, xs: &[u8])
+        ensures { Puts self.old self.new (letters xs.now) }
+    {
+        for x in xs {
+            self.put(letter_of(*x));
+        }
+    }
+
+    // The first m links; nothing behind the word where m is 0.
+    pub fn links_line(&mut self, m: usize, values: &[u8])
+        requires { m ≤ length values.now }
+        ensures { Puts self.old self.new (links_line m values.now) }
+    {
+        if m == 0 {
+            self.text(b"links\n");
+            return;
+        }
+        self.text(b"links ");
+        self.put_letters(&values[..m]);
+        self.feed();
+    }
+
+    // A word, and rows.
+    fn rows_line(&mut self, word: &[u8], rows: &[u8])
+        ensures { Puts self.old self.new (rows_line word.now rows.now) }
+    {
+        self.text(word);
+        self.numbers(rows);
+        self.feed();
+    }
+
+    // The rows that have a step.
+    pub fn enabled_line(&mut self, rows: &[u8])
+        ensures { Puts self.old self.new (rows_line enabled_word rows.now) }
+    {
+        self.rows_line(b"enabled", rows);
+    }
+
+    // A space and a link, or "-" where there is none to wait for.
+    fn link_waited(&mut self, l: u8)
+        ensures { Puts self.old self.new (wait_field l) }
+    {
+        if l == worth::NO_LINK {
+            self.text(b" -");
+            return;
+        }
+        self.number(l as usize);
+    }
+
+    // Rows, each followed by what it waits for.
+    fn rows_waiting(&mut self, rows: &[u8], links: &[u8])
+        requires { length rows.now ≤ length links.now }
+        ensures { Puts self.old self.new (wait_fields rows.now links.now) }
+    {
+        for (i, row) in rows.iter().enumerate() {
+            self.number(*row as usize);
+            self.link_waited(links[i]);
+        }
+    }
+
+    // The JOIN rows that are waited for, each with its link.
+    pub fn waiting_line(&mut self, rows: &[u8], links: &[u8])
+        requires { length rows.now ≤ length links.now }
+        ensures { Puts self.old self.new (waiting_line rows.now links.now) }
+    {
+        self.text(b"waiting");
+        self.rows_waiting(rows, links);
+        self.feed();
+    }
+
+    // Nothing is left to do.
+    pub fn finished_line(&mut self)
+        ensures { Puts self.old self.new finished_line }
+    {
+        self.text(b"finished\n");
+    }
 }

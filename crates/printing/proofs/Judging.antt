@@ -1,12 +1,13 @@
 -- What is refused before the first line is printed: the input, the sheet, the mode. Assumes nothing.
 use mathlib.Core.Path.{◌≡◌, refl, sym, ap, subst, ◌∙◌}
 use mathlib.Core.List.{List, [], ◌∷◌, ◌++◌}
-use Prim.Native.Nat.{ℕ, ◌+◌, ◌*◌, ◌-◌, ◌≤◌, ◌<◌}
+use Prim.Native.Nat.{ℕ, ◌+◌, ◌-◌, ◌≤◌, ◌<◌}
 use native.Mathlib.Omega.{arith}
 use lib.Dec.{leb}
 use lib.ListN.{length, length-drop, take, drop, get_or}
 use lib.Seq.{take_all}
 use borrow.Author.Tests.{le-leb, lt-leb}
+use Rattle.std.specs.Int.{w16, from_le_bytes}
 use Rattle.laws.specs.Checks.{Check, Holds, place_of, checked}
 use Rattle.laws.proofs.Tests.{and_false}
 use Rattle.laws.proofs.Checks.{checked_append, checked_map, checked_holds, holds_end}
@@ -106,14 +107,11 @@ module _ (input : List ℕ) where
   pub leading_cut : length input < 3 → refused_line 1 0 ≡ printed input
   leading_cut h = cut_refused (omega (arith, h))
 
-  module _ (low high : ℕ) (first : low ≡ get_or input 1 0) (second : high ≡ get_or input 2 0) (leading : 3 ≤ length input) where
-    abbrev size : ℕ
-    size = low + 256 * high
+  pub size_read : (size : ℕ) → size ≡ from_le_bytes w16 (get_or input 1 0 ∷ (get_or input 2 0 ∷ [])) → size ≡ size_in input
+  unfolding number_at
+  size_read size e = omega (arith, e)
 
-    size_is : size ≡ size_in input
-    unfolding number_at
-    size_is = rw (first, second) refl
-
+  module _ (size : ℕ) (size_is : size ≡ size_in input) (leading : 3 ≤ length input) where
     pub sheet_cut : length input - 3 < size → refused_line 1 0 ≡ printed input
     sheet_cut h = cut_refused (omega (arith, h, leading, size_is))
 

@@ -5,17 +5,17 @@
 ghost use Rattle.std.specs.Prelude.{◌≡◌, ◌<◌, ◌≤◌, length, take};
 ghost use Rattle.laws.specs.Checks.{checked};
 ghost use Rattle.laws.specs.Listed.{written};
-ghost use Rattle.sheet.specs.Table.{table_of};
-ghost use Rattle.lines.specs.Page.{page, added};
+ghost use Rattle.lines.specs.Page.{page, added, Puts};
 ghost use Rattle.moves.specs.Steps.{listed_of};
 ghost use Rattle.moves.specs.Standing.{waiting_of, awaits_of};
 ghost use Rattle.lines.specs.Lines.{refused_line, enabled_word, rows_line, waiting_line};
-ghost use Rattle.sheet_engine.specs.Answers.{start_checks, step_answer};
+ghost use Rattle.sheet_engine.specs.Answers.{start_checks};
 ghost use Rattle.printing.specs.Printed.{end_lines, step_lines, run_lines, sheet_lines, printed};
+ghost use Rattle.printing.specs.Parts.{the_table};
 ghost use Rattle.promises.specs.Calls.{Accepted};
 
 use codec::{SheetAnswer, SizeAnswer};
-use engine::Stepped;
+use lines::Page;
 use sheet::Head;
 use sheet_engine::StandingAnswer;
 use state::State;
@@ -23,140 +23,133 @@ use state::State;
 // No output is longer: the verdict's line, 256 steps, the links, and 256 rows that are waited for, each with its link.
 pub const LONGEST: usize = 25 + 256 * 18 + 71 + 2056;
 
+// The parts of a table.
+#[derive(Clone, Copy)]
+struct Parts<'a> {
+    head: Head,
+    terms: &'a [u8],
+    conditions: &'a [u8],
+}
+
 // The rows that have a step.
-fn listed_line(out: &mut [u8], at: usize, s: State, h: Head, ts: &[u8], cs: &[u8]) -> usize
-    requires { Accepted (table_of h ts.now cs.now) s }
-    ensures { page out.new result ≡ added (page out.old at) (rows_line enabled_word (listed_of (table_of h ts.now cs.now) s)) }
+fn listed_line(out: &mut Page, s: State, t: Parts)
+    requires { Accepted (the_table t) s }
+    ensures { Puts out.old out.new (rows_line enabled_word (listed_of (the_table t.entry) s)) }
 {
     let mut rows = [0; 256];
-    match sheet_engine::list_steps(s, h, ts, cs, &mut rows) {
-        SizeAnswer::Size(count) => lines::enabled_line(out, at, &rows[..count]),
-        SizeAnswer::Refused(number, place) => lines::refused_line(out, at, number, place),
+    match sheet_engine::list_steps(s, t.head, t.terms, t.conditions, &mut rows) {
+        SizeAnswer::Size(count) => out.enabled_line(&rows[..count]),
+        SizeAnswer::Refused(number, place) => out.refused_line(number, place),
     }
 }
 
 // The rows that are waited for, each with its link.
-fn waited_line(
-    out: &mut [u8],
-    at: usize,
-    s: State,
-    h: Head,
-    ts: &[u8],
-    cs: &[u8],
-    rows: &[u8],
-) -> usize
-    requires { Accepted (table_of h ts.now cs.now) s × (rows.now ≡ waiting_of (table_of h ts.now cs.now) s) }
-    ensures { page out.new result ≡ added (page out.old at) (waiting_line (waiting_of (table_of h ts.now cs.now) s) (awaits_of (table_of h ts.now cs.now) s)) }
+fn waited_line(out: &mut Page, s: State, t: Parts, rows: &[u8])
+    requires { Accepted (the_table t) s × (rows.now ≡ waiting_of (the_table t) s) }
+    ensures { Puts out.old out.new (waiting_line (waiting_of (the_table t.entry) s) (awaits_of (the_table t.entry) s)) }
 {
     let mut links = [0; 256];
-    match sheet_engine::waits_for(s, h, ts, cs, &mut links) {
-        SizeAnswer::Size(count) => lines::waiting_line(out, at, rows, &links[..count]),
-        SizeAnswer::Refused(number, place) => lines::refused_line(out, at, number, place),
+    match sheet_engine::waits_for(s, t.head, t.terms, t.conditions, &mut links) {
+        SizeAnswer::Size(count) => out.waiting_line(rows, &links[..count]),
+        SizeAnswer::Refused(number, place) => out.refused_line(number, place),
     }
 }
 
 // The links, and how the state stands.
-fn end_lines(out: &mut [u8], at: usize, s: State, h: Head, ts: &[u8], cs: &[u8]) -> usize
-    requires { Accepted (table_of h ts.now cs.now) s }
-    ensures { page out.new result ≡ added (page out.old at) (end_lines (table_of h ts.now cs.now) s) }
+fn end_lines(out: &mut Page, s: State, t: Parts)
+    requires { Accepted (the_table t) s }
+    ensures { Puts out.old out.new (end_lines (the_table t.entry) s) }
 {
     let links = s.links;
-    let end = lines::links_line(out, at, h.m, &links);
+    out.links_line(t.head.m, &links);
     let mut rows = [0; 256];
-    match sheet_engine::standing(s, h, ts, cs, &mut rows) {
-        StandingAnswer::Enabled => listed_line(out, end, s, h, ts, cs),
-        StandingAnswer::Finished => lines::finished_line(out, end),
-        StandingAnswer::Waiting(count) => waited_line(out, end, s, h, ts, cs, &rows[..count]),
-        StandingAnswer::Refused(number, place) => lines::refused_line(out, end, number, place),
+    match sheet_engine::standing(s, t.head, t.terms, t.conditions, &mut rows) {
+        StandingAnswer::Enabled => listed_line(out, s, t),
+        StandingAnswer::Finished => out.finished_line(),
+        StandingAnswer::Waiting(count) => waited_line(out, s, t, &rows[..count]),
+        StandingAnswer::Refused(number, place) => out.refused_line(number, place),
     }
-}
-
-// The step of a row that is a byte of the input.
-fn step(s: State, h: Head, ts: &[u8], cs: &[u8], row: u8) -> Stepped
-    ensures { result ≡ step_answer (table_of h ts.now cs.now) s row }
-{
-    sheet_engine::take_step(s, h, ts, cs, row as usize)
 }
 
 // The steps, each on its line, up to the first that is refused; then the end.
-fn step_lines(
-    out: &mut [u8],
-    at: usize,
-    s: State,
-    h: Head,
-    ts: &[u8],
-    cs: &[u8],
-    rows: &[u8],
-) -> usize
-    requires { Accepted (table_of h ts.now cs.now) s }
-    ensures { page out.new result ≡ added (page out.old at) (step_lines (table_of h ts.now cs.now) s rows.now) }
+fn step_lines(out: &mut Page, s: State, t: Parts, rows: &[u8])
+    requires { Accepted (the_table t) s }
+    ensures { Puts out.old out.new (step_lines (the_table t.entry) s rows.now) }
 {
     let mut state = s;
-    let mut end = at;
-    let mut i = 0;
-    while i < rows.len() {
-        let next = step(state, h, ts, cs, rows[i]);
+    for row in rows {
+        let next = sheet_engine::take_step(state, t.head, t.terms, t.conditions, *row as usize);
         let kind = next.answer;
-        end = lines::step_line(out, end, rows[i], kind);
         if !next.ok {
-            return end;
+            out.step_line(*row, kind);
+            return;
         }
+        out.step_line(*row, kind);
         state = next.state;
-        i += 1;
     }
-    end_lines(out, end, state, h, ts, cs)
+    end_lines(out, state, t)
 }
 
 // The verdict and the steps of a sheet that is accepted, in a mode.
-fn run_lines(out: &mut [u8], mode: u8, h: Head, ts: &[u8], cs: &[u8], rows: &[u8]) -> usize
-    ensures { page out.new result ≡ added (page out.old 0) (checked refused_line (run_lines (table_of h ts.now cs.now) mode rows.now) (start_checks (table_of h ts.now cs.now) mode)) }
+fn run_lines(out: &mut Page, mode: u8, t: Parts, rows: &[u8])
+    ensures { Puts out.old out.new (checked refused_line (run_lines (the_table t.entry) mode rows.now) (start_checks (the_table t.entry) mode)) }
 {
-    let started = sheet_engine::start(h, ts, cs, mode);
+    let started = sheet_engine::start(t.head, t.terms, t.conditions, mode);
     let number = started.number;
     let place = started.place;
     if number != 0 {
-        return lines::refused_line(out, 0, number, place);
+        out.refused_line(number, place);
+        return;
     }
     let state = started.state;
-    let verdict = sheet_engine::give_verdict(h, ts, cs);
-    let end = lines::verdict_line(out, 0, verdict);
-    step_lines(out, end, state, h, ts, cs, rows)
+    out.verdict_line(sheet_engine::give_verdict(t.head, t.terms, t.conditions));
+    step_lines(out, state, t, rows)
 }
 
 // A sheet's refusal, or its run.
-fn sheet_lines(out: &mut [u8], mode: u8, sheet: &[u8], rows: &[u8]) -> usize
-    ensures { page out.new result ≡ added (page out.old 0) (sheet_lines mode sheet.now rows.now) }
+fn sheet_lines(out: &mut Page, mode: u8, sheet: &[u8], rows: &[u8])
+    ensures { Puts out.old out.new (sheet_lines mode sheet.now rows.now) }
 {
     match sheet_engine::read_sheet(sheet) {
-        SheetAnswer::Sheet(h) => {
-            let ts = sheet_engine::terms_part(sheet);
-            let cs = sheet_engine::conditions_part(sheet);
-            run_lines(out, mode, h, ts, cs, rows)
+        SheetAnswer::Sheet(head) => {
+            let terms = sheet_engine::terms_part(sheet);
+            let conditions = sheet_engine::conditions_part(sheet);
+            let t = Parts {
+                head,
+                terms,
+                conditions,
+            };
+            run_lines(out, mode, t, rows)
         }
-        SheetAnswer::Refused(number, place) => lines::refused_line(out, 0, number, place),
+        SheetAnswer::Refused(number, place) => out.refused_line(number, place),
     }
 }
 
-fn wide(x: u8) -> usize
-    ensures { (result ≡ x) × (result < 256) }
+// What is printed for an input.
+fn input_lines(out: &mut Page, input: &[u8])
+    ensures { Puts out.old out.new (printed input.now) }
 {
-    x as usize
+    let length = input.len();
+    if length < 3 {
+        out.refused_line(1, 0);
+        return;
+    }
+    let size = u16::from_le_bytes([input[1], input[2]]) as usize;
+    if length - 3 < size {
+        out.refused_line(1, 0);
+        return;
+    }
+    let end = 3 + size;
+    sheet_lines(out, input[0], &input[3..end], &input[end..])
 }
 
 // What is printed, as far as there is room.
 fn lines_of(input: &[u8], out: &mut [u8]) -> usize
     ensures { page out.new result ≡ added (page out.old 0) (printed input.now) }
 {
-    let length = input.len();
-    if length < 3 {
-        return lines::refused_line(out, 0, 1, 0);
-    }
-    let size = wide(input[1]) + 256 * wide(input[2]);
-    if length - 3 < size {
-        return lines::refused_line(out, 0, 1, 0);
-    }
-    let end = 3 + size;
-    sheet_lines(out, input[0], &input[3..end], &input[end..])
+    let mut lines = Page::new(out);
+    input_lines(&mut lines, input);
+    lines.len()
 }
 
 // What is printed, for any input. The buffer holds every output. The second clause, which follows from the first, is what a caller needs to take the output as a part of the buffer.

@@ -1,17 +1,16 @@
 use lib.ListN.{replicate}
-use mathlib.Core.Path.{refl, sym, ap, ◌∙◌}
+use mathlib.Core.Path.{refl, sym}
 use native.Mathlib.Omega.{arith}
 use lib.Seq.{length-take-le}
-use Rattle.lines.specs.Page.{added}
 use Rattle.lines.specs.Lines.{last_line}
-use Rattle.lines.proofs.Pages.{then}
+use Rattle.lines.proofs.Pages.{then, puts_as}
 use Rattle.printing.specs.Printed.{end_lines}
 use Rattle.promises.proofs.Calls.{formed}
 use Rattle.printing.proofs.Runs.{line_of, stand_unrefused, waited_lies, waited_part}
 use Rattle.printing.proofs.end_lines.Goals as goal
 
-pub links_line-end-requires : goal.links_line-end-requires
-links_line-end-requires c = let g = c.requires in omega (arith, (formed g).few_links, g.sized.all_links)
+pub links_line-requires : goal.links_line-requires
+links_line-requires c = let g = c.requires in omega (arith, (formed g).few_links, g.sized.all_links)
 
 pub slice_bounds-rows-end : goal.slice_bounds-rows-end
 slice_bounds-rows-end c =
@@ -28,16 +27,16 @@ waited_line-requires c =
 
 pub returns-in-Enabled : goal.returns-in-Enabled
 unfolding end_lines last_line
-returns-in-Enabled c = then _ _ _ _ _ c.links_line-end.ensures (c.listed_line.ensures ∙ ap (added _) (line_of _ _ c.requires (replicate 256 0) refl _ c.standing.ensures.value.0 _ c.in-Enabled.is))
+returns-in-Enabled c = then c.links_line.ensures (puts_as c.listed_line.ensures (line_of _ _ c.requires (replicate 256 0) refl _ c.standing.ensures.value.0 _ c.in-Enabled.is))
 
 pub returns-in-Finished : goal.returns-in-Finished
 unfolding end_lines last_line
-returns-in-Finished c = then _ _ _ _ _ c.links_line-end.ensures (c.finished_line.ensures ∙ ap (added _) (line_of _ _ c.requires (replicate 256 0) refl _ c.standing.ensures.value.0 _ c.in-Finished.is))
+returns-in-Finished c = then c.links_line.ensures (puts_as c.finished_line.ensures (line_of _ _ c.requires (replicate 256 0) refl _ c.standing.ensures.value.0 _ c.in-Finished.is))
 
 pub returns-in-Waiting : goal.returns-in-Waiting
 unfolding end_lines last_line
 returns-in-Waiting c =
-    then _ _ _ _ _ c.links_line-end.ensures (c.waited_line.ensures ∙ ap (added _) (line_of _ _ c.requires (replicate 256 0) refl _ c.standing.ensures.value.0 _ c.in-Waiting.is))
+    then c.links_line.ensures (puts_as c.waited_line.ensures (line_of _ _ c.requires (replicate 256 0) refl _ c.standing.ensures.value.0 _ c.in-Waiting.is))
 
 pub returns-in-Refused : goal.returns-in-Refused
 returns-in-Refused c = absurd (stand_unrefused _ _ c.requires (replicate 256 0) refl _ c.standing.ensures.value.0 _ _ (sym c.in-Refused.is))

@@ -1,7 +1,7 @@
 use lib.ListN.{replicate}
-use mathlib.Core.Path.{refl, sym, ap, ◌∙◌}
+use mathlib.Core.Path.{refl, sym, ap}
 use lib.Seq.{length-take-le}
-use Rattle.lines.specs.Page.{added}
+use Rattle.lines.proofs.Pages.{puts_as}
 use Rattle.lines.specs.Lines.{enabled_word, rows_line}
 use Rattle.printing.proofs.Runs.{fetched_lies, fetched_part, fetched_unrefused, listed_fetched}
 use Rattle.printing.proofs.listed_line.Goals as goal
@@ -17,7 +17,7 @@ slice_bounds-enabled_line-end c =
 pub returns-in-Size : goal.returns-in-Size
 returns-in-Size c =
     let rows = fetched_part (listed_fetched _ _ c.requires (replicate 256 0) refl _ _ c.list_steps.ensures.value) _ c.in-Size.is in
-    c.enabled_line.ensures ∙ ap (added _) (ap (rows_line enabled_word) rows)
+    puts_as c.enabled_line.ensures (ap (rows_line enabled_word) rows)
 
 pub returns-in-Refused : goal.returns-in-Refused
 returns-in-Refused c =

@@ -5,5 +5,5 @@ use Rattle.printing.proofs.print.Goals as goal
 
 pub returns : goal.returns
 returns c =
-    let (v, u) = printed_whole c.args.input.now _ _ _ (λ i. omega (arith, c.shared_slice_known-1.given i)) (search rules) c.lines_of.ensures in
+    let (v, u) = printed_whole c.args.input.now _ _ _ (λ i. omega (arith, c.type_inv.input i)) (search rules) c.lines_of.ensures in
     record { value = v; upper_bound = u }

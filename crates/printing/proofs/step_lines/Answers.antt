@@ -1,42 +1,27 @@
-use mathlib.Core.List.{[]}
-use Rattle.lines.proofs.Pages.{kept_length}
-use mathlib.Core.Path.{refl, sym, ap, ◌∙◌}
+use mathlib.Core.Path.{refl, sym}
 use borrow.Author.Tests.{not-true, not-false}
-use Rattle.lines.specs.Page.{added}
-use Rattle.lines.proofs.Pages.{adding_none, adding_more, adding_all}
+use Rattle.lines.proofs.Pages.{none_put, more_put, all_put, end_put, puts_as}
 use Rattle.printing.proofs.Runs.{lines_stop, lines_more, next_accepted, lines_end}
-use native.Mathlib.Omega.{arith}
 use Rattle.printing.proofs.step_lines.Goals as goal
 
-pub loop-i-init : goal.loop-i-init
-loop-i-init c = (adding_none _ _ _, c.requires)
-
-pub step-next-requires : goal.step-next-requires
-step-next-requires c = tt
-
-pub step_line-end-requires : goal.step_line-end-requires
-step_line-end-requires c = tt
-
-pub shape_of-out-then-not-next : goal.shape_of-out-then-not-next
-shape_of-out-then-not-next c = kept_length _ _ _ _ _ c.step_line-end.ensures ∙ c.loop-i.invariant.0.kept
+pub loop-row-init : goal.loop-row-init
+loop-row-init c = record { lines = none_put _ _; accepted = c.requires }
 
 pub returns-then-not-next : goal.returns-then-not-next
-returns-then-not-next c = adding_all _ _ _ _ _ _ (adding_more _ _ _ _ _ _ _ _ [] _ c.loop-i.invariant.0 (lines_stop _ _ c.loop-i.invariant.1 _ _ c.loop-i-test.true _ c.step-next.ensures (not-true _ c.if-not-next.true)) c.step_line-end.ensures) refl
+returns-then-not-next c =
+    let l = c.loop-row.invariant in
+    end_put (more_put l.lines (lines_stop _ _ l.accepted _ _ c.loop-row-test.true _ c.take_step-next.ensures.value (not-true _ c.if-not-next.true)) c.step_line.ensures) refl
 
-pub overflow_add-i : goal.overflow_add-i
-overflow_add-i c = let g = c.well_formed.1.1.1.1.1.1.0 in record { fits = omega (arith, c.loop-i-test.true, g) }
-
-pub loop-i-smaller : goal.loop-i-smaller
-loop-i-smaller c = omega (arith, c.loop-i-test.true)
-
-pub loop-i-preserved : goal.loop-i-preserved
-loop-i-preserved c = (adding_more _ _ _ _ _ _ _ _ _ _ c.loop-i.invariant.0 (lines_more _ _ c.loop-i.invariant.1 _ _ c.loop-i-test.true _ c.step-next.ensures (not-false _ c.if-not-next.false)) c.step_line-end.ensures, next_accepted _ _ c.loop-i.invariant.1 c.args.rows.now _ c.loop-i-test.true _ c.step-next.ensures (not-false _ c.if-not-next.false))
+pub loop-row-preserved : goal.loop-row-preserved
+loop-row-preserved c =
+    let l = c.loop-row.invariant in
+    record {
+      lines = more_put l.lines (lines_more _ _ l.accepted _ _ c.loop-row-test.true _ c.take_step-next.ensures.value (not-false _ c.if-not-next.false)) c.step_line-in-loop-row.ensures;
+      accepted = next_accepted _ _ l.accepted c.args.rows.now _ c.loop-row-test.true _ c.take_step-next.ensures.value (not-false _ c.if-not-next.false);
+    }
 
 pub end_lines-requires : goal.end_lines-requires
-end_lines-requires c = c.loop-i.invariant.1
-
-pub shape_of-out : goal.shape_of-out
-shape_of-out c = kept_length _ _ _ _ _ c.end_lines.ensures ∙ c.loop-i.invariant.0.kept
+end_lines-requires c = c.loop-row.invariant.accepted
 
 pub returns : goal.returns
-returns c = c.end_lines.ensures ∙ (ap (added _) (sym (lines_end _ _ _ _ c.loop-i-test.false)) ∙ c.loop-i.invariant.0.rest)
+returns c = all_put c.loop-row.invariant.lines (puts_as c.end_lines.ensures (sym (lines_end _ _ _ _ c.loop-row-test.false)))

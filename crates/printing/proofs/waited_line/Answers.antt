@@ -1,7 +1,7 @@
 use lib.ListN.{replicate}
-use mathlib.Core.Path.{refl, sym, ap, ap₂, ◌∙◌}
+use mathlib.Core.Path.{refl, sym, ap₂}
 use lib.Seq.{length-take-le}
-use Rattle.lines.specs.Page.{added}
+use Rattle.lines.proofs.Pages.{puts_as}
 use Rattle.lines.specs.Lines.{waiting_line}
 use Rattle.printing.proofs.Runs.{fetched_lies, fetched_part, fetched_unrefused, waits_fetched, waits_matched}
 use Rattle.printing.proofs.waited_line.Goals as goal
@@ -22,7 +22,7 @@ waiting_line-requires c =
 pub returns-in-Size : goal.returns-in-Size
 returns-in-Size c =
     let links = fetched_part (waits_fetched _ _ c.requires.0 (replicate 256 0) refl _ _ c.waits_for.ensures.value) _ c.in-Size.is in
-    c.waiting_line.ensures ∙ ap (added _) (ap₂ waiting_line c.requires.1 links)
+    puts_as c.waiting_line.ensures (ap₂ waiting_line c.requires.1 links)
 
 pub returns-in-Refused : goal.returns-in-Refused
 returns-in-Refused c =

@@ -1,4 +1,0 @@
-use Rattle.lines.proofs.enabled_line.Goals as goal
-
-pub returns : goal.returns
-returns c = c.rows_line.ensures

@@ -1,6 +1,0 @@
-use Rattle.lines.specs.Lines.{finished_line}
-use Rattle.lines.proofs.finished_line.Goals as goal
-
-pub returns : goal.returns
-unfolding finished_line
-returns c = c.text.ensures
