@@ -28,10 +28,12 @@ use Rattle.moves.specs.Fits.{live}
 use Rattle.compacted.specs.Compacted.{is_kept, rank, kept_row, compacted_terms}
 use Rattle.flags.specs.Flags.{flagged}
 use Rattle.flags.proofs.Shown.{shown}
+use Rattle.laying.specs.Told.{Tells}
+use Rattle.laying.specs.LaidIn.{LaidIn}
 use Rattle.front.specs.Asked.{ShowsLive}
 use Rattle.front.proofs.Asking.{asked_live}
 use Rattle.collect.specs.Tops.{kept_as}
-use Rattle.collect.specs.Kept.{Tells, kept_by, new_bytes, new_terms, LaidIn}
+use Rattle.collect.specs.Kept.{kept_by, new_bytes, new_terms}
 use Rattle.collect.proofs.Stays.{kept_said, kept_as_said}
 
 -- only the children are asked
@@ -46,8 +48,8 @@ same_kept_as k n (PREFIX π c) m f f' g g' h e = at (waits_by (stand m))
 same_kept_as k n (BRANCH κ p q) m f f' g g' h e = ap₂ (BRANCH κ) (e p h.0.1) (e q h.1.1)
 
 -- from what the three passes tell
-module _ (t : Table) (tree : Tree (row_at t.terms) t.n) (s : State) (L T N : List ℕ)
-    (lives : ShowsLive t.terms t.n (marks_of s) L) (tops : Tells (λ j. root (remainder_in t.terms t.n (marks_of s) j)) 0 t.n T) (ranks : Tells (count (kept_by L T)) 0 t.n N) where
+module _ (t : Table) (tree : Tree (row_at t.terms) t.n) (s : State) (L T N : List ℕ) (p : ℕ → Bool)
+    (lives : ShowsLive t.terms t.n (marks_of s) L) (tops : Tells (λ j. root (remainder_in t.terms t.n (marks_of s) j)) 0 t.n T) (keeps : (k : ℕ) → k < t.n → p k ≡ kept_by L T k) (ranks : Tells (count p) 0 t.n N) where
   abbrev R : ℕ → Process
   R = remainder_in t.terms t.n (marks_of s)
 
@@ -58,18 +60,19 @@ module _ (t : Table) (tree : Tree (row_at t.terms) t.n) (s : State) (L T N : Lis
   top_is k h = tops.at k (omega arith) h
 
   -- the rows that are kept ...
-  kept_is : (k : ℕ) → k < t.n → kept_by L T k ≡ is_kept t s k
+  kept_is : (k : ℕ) → k < t.n → p k ≡ is_kept t s k
   unfolding is_kept
   kept_is k h =
       let (to, back) = kept_said t.terms t.n tree.kids tree.once (marks_of s) k tree.some_row h in
+      keeps k h ∙
       both_ways
       (λ e. back (sym (live_is k h) ∙ and_l _ _ e, sym (top_is k h) ∙ eqb-true (get_or T k 0) k (and_r (flagged L k) _ e)))
       (λ e. let (a, b) = to e in rw (live_is k h, top_is k h, a) (eq-eqb (root (R k)) k b))
 
   -- ... their ranks ...
-  count_is : (k : ℕ) → k ≤ t.n → count (kept_by L T) k ≡ rank t s k
+  count_is : (k : ℕ) → k ≤ t.n → count p k ≡ rank t s k
   unfolding rank
-  count_is k h = count_same (kept_by L T) (is_kept t s) k (λ i l. kept_is i (omega arith))
+  count_is k h = count_same p (is_kept t s) k (λ i l. kept_is i (omega arith))
 
   top_below : (c : ℕ) → c < t.n → root (R c) < t.n
   top_below c h = (rows_above (row_at t.terms) t.n tree.kids c h (root (R c)) (contra (remainder_rows (marks_of s) (term (row_at t.terms) t.n c) (root (R c))) (root_rows (R c)))).1
@@ -86,14 +89,13 @@ module _ (t : Table) (tree : Tree (row_at t.terms) t.n) (s : State) (L T N : Lis
       ap row_bytes (same_kept_as k t.n (row_at t.terms k) (marks_of s k) (λ j. get_or N j 0) (rank t s) (λ j. get_or T j 0) (λ j. root (R j)) (tree.kids k h) rank_is ∙
       ap (renumbered (rank t s)) (sym (kept_as_said t.terms t.n tree.kids tree.once (marks_of s) k tree.some_row e)))
 
-  pub terms_are : (r : ℕ) (rows : List ℕ) → LaidIn (count (kept_by L T) t.n) (new_terms t.terms t.n (marks_of s) L T N) r rows → LaidIn (rank t s t.n) (compacted_terms t s) r rows
+  pub terms_are : (r : ℕ) (rows : List ℕ) → LaidIn (count p t.n) (new_terms t.terms t.n (marks_of s) p T N) r rows → LaidIn (rank t s t.n) (compacted_terms t s) r rows
   unfolding compacted_terms
   terms_are r rows g = record {
-    size = g.size;
     counted = g.counted ∙ count_is t.n (omega arith);
     begins =
         g.begins ∙
-        (ap (laid (λ k. new_bytes (row_at t.terms k) (marks_of s k) T N)) (listed_same (kept_by L T) (is_kept t s) 0 t.n (λ j _ l. kept_is j (omega arith))) ∙
+        (ap (laid (λ k. new_bytes (row_at t.terms k) (marks_of s k) T N)) (listed_same p (is_kept t s) 0 t.n (λ j _ l. kept_is j (omega arith))) ∙
         laid_same (λ k. new_bytes (row_at t.terms k) (marks_of s k) T N) (λ k. row_bytes (kept_row t s k)) (listed (is_kept t s) 0 t.n)
         (λ k m. row_is k (omega (arith, listed_under (is_kept t s) 0 t.n k m)) (listed_holds (is_kept t s) 0 t.n k m)));
   }

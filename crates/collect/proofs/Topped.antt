@@ -1,38 +1,19 @@
--- The top of a row, by the kind in its bytes, and from a table of the tops above it. Assumes nothing.
+-- The top of a row, from a table of the tops above it. Assumes nothing.
 use Prim.Native.Nat.{ℕ, ◌+◌, ◌<◌}
 use mathlib.Core.Path.{◌≡◌, refl, sym, ◌∙◌, ap, ap₂}
-use mathlib.Core.Bool.{false, cond}
+use mathlib.Core.Bool.{cond}
 use mathlib.Core.List.{List}
 use native.Mathlib.Omega.{arith}
-use lib.Dec.{eqb}
 use lib.ListN.{get_or}
-use Rattle.laws.proofs.Tests.{not_both}
-use Rattle.calculus.specs.Process.{Prefix, pick}
 use Rattle.steps.specs.Rows.{Row, NIL, PREFIX, BRANCH, Kids, Tree}
 use Rattle.steps.specs.Marks.{Marks, stand, open_branches}
 use Rattle.steps.specs.InFront.{passed_by}
-use Rattle.sheet.specs.Table.{row_by, row_at}
-use Rattle.sheet.proofs.Rows.{row_by_kind}
+use Rattle.sheet.specs.Table.{row_at}
 use Rattle.layout.specs.Rows.{root}
 use Rattle.moves.specs.Steps.{remainder_in}
 use Rattle.collect.specs.Tops.{top_branch, top_by}
-use Rattle.collect.specs.Kept.{Tells}
+use Rattle.laying.specs.Told.{Tells}
 use Rattle.collect.proofs.Stays.{top_at}
-
-module _ (i m : ℕ) (f : ℕ → ℕ) where
-  pub top_prefix : (N : Row) (r : ℕ) {π : Prefix} {c : ℕ} → N ≡ PREFIX π c → r ≡ cond (passed_by (stand m)) (f c) i → r ≡ top_by i N m f
-  unfolding top_by
-  top_prefix N r e h = rw e h
-
-  pub top_pick : (N : Row) (r : ℕ) {p q : ℕ} → N ≡ BRANCH pick p q → r ≡ top_branch (open_branches pick m) i (f p) (f q) → r ≡ top_by i N m f
-  unfolding top_by
-  top_pick N r e h = rw e h
-
-  -- any other row is its own top
-  pub top_other : (kind a b c : ℕ) → eqb kind 1 ≡ false → eqb kind 2 ≡ false → eqb kind 3 ≡ false → eqb kind 4 ≡ false → i ≡ top_by i (row_by kind a b c) m f
-  unfolding top_by open_branches
-  top_other kind a b c p q r s =
-      row_by_kind (λ (N : Row). i ≡ top_by i N m f) kind a b c refl (λ e. absurd (not_both e p)) (λ e. absurd (not_both e q)) (λ e. absurd (not_both e r)) (λ e. absurd (not_both e s)) (λ _. refl)
 
 -- only the children are asked
 top_same : (i n : ℕ) (N : Row) (m : ℕ) (f g : ℕ → ℕ) → Kids i n N → ((j : ℕ) → i < j → j < n → f j ≡ g j) → top_by i N m f ≡ top_by i N m g

@@ -15,9 +15,9 @@ use Rattle.codec.proofs.Writing.{sheet_length}
 use Rattle.state.specs.declared.State.{State}
 use Rattle.compacted.specs.Compacted.{rank, compacted_terms, compacted_by, compacted_head, compacted_sheet}
 use Rattle.compacted.proofs.Compacted.{compacted_lent, rank_upto}
-use Rattle.collect.specs.Kept.{LaidIn}
+use Rattle.laying.specs.LaidIn.{LaidIn}
 
-module _ (t : Table) (w : WellFormed t) (s : State) (count : ℕ) (rows : List ℕ) (laid : LaidIn (rank t s t.n) (compacted_terms t s) count rows) (e : ℕ) (by : e ≡ compacted_by t.evaluation) where
+module _ (t : Table) (w : WellFormed t) (s : State) (count : ℕ) (rows : List ℕ) (long : length rows ≡ 1024) (laid : LaidIn (rank t s t.n) (compacted_terms t s) count rows) (e : ℕ) (by : e ≡ compacted_by t.evaluation) where
   abbrev head : Head
   head = record { evaluation = e; m = t.m; n = count; k = t.k }
 
@@ -26,7 +26,7 @@ module _ (t : Table) (w : WellFormed t) (s : State) (count : ℕ) (rows : List �
     few_links = w.few_links;
     few_terms = omega (arith, laid.counted, rank_upto t s, w.few_terms);
     few_conditions = w.few_conditions;
-    terms_lent = omega (arith, laid.size, laid.counted, rank_upto t s, w.few_terms);
+    terms_lent = omega (arith, long, laid.counted, rank_upto t s, w.few_terms);
     conditions_lent = omega (arith, w.conditions_lent);
   }
 

@@ -1,5 +1,5 @@
 -- What the passes over the rows make: a table of 256 numbers, the bytes of the rows that are kept.
-use Rattle.std.specs.Prelude.{ℕ, ◌*◌, ◌<◌, ◌≤◌, ◌≡◌, Bool, ◌&&◌, List, eqb, get_or, length, take}
+use Rattle.std.specs.Prelude.{ℕ, Bool, ◌&&◌, List, eqb, get_or}
 use Rattle.laws.specs.Listed.{listed}
 use Rattle.steps.specs.Rows.{Row}
 use Rattle.steps.specs.Marks.{Marks}
@@ -10,12 +10,8 @@ use Rattle.layout.specs.Bytes.{row_bytes, laid}
 use Rattle.state.specs.declared.State.{State}
 use Rattle.compacted.specs.Compacted.{rank, compacted_terms}
 use Rattle.flags.specs.Flags.{flagged}
+use Rattle.laying.specs.LaidIn.{LaidIn}
 use Rattle.collect.specs.Tops.{kept_as}
-
--- the table tells a function's value at each number from a on, below b
-pub record Tells (f : ℕ → ℕ) (a b : ℕ) (t : List ℕ) : Type 0 where
-  pub size : length t ≡ 256
-  pub at : (j : ℕ) → a ≤ j → j < b → get_or t j 0 ≡ f j
 
 -- a row is kept that is live, and its own top
 abbrev pub kept_by : List ℕ → List ℕ → ℕ → Bool
@@ -26,14 +22,8 @@ unfoldable pub new_bytes : Row → ℕ → List ℕ → List ℕ → List ℕ
 new_bytes N mark tops ranks = row_bytes (renumbered (λ j. get_or ranks j 0) (kept_as N mark (λ j. get_or tops j 0)))
 
 -- ... and of all of them, in their old order
-abbrev pub new_terms : List ℕ → ℕ → Marks → List ℕ → List ℕ → List ℕ → List ℕ
-new_terms ts n μ live tops ranks = laid (λ k. new_bytes (row_at ts k) (μ k) tops ranks) (listed (kept_by live tops) 0 n)
-
--- so many rows, with these bytes: the array begins with them
-pub record LaidIn (n : ℕ) (bytes : List ℕ) (count : ℕ) (rows : List ℕ) : Type 0 where
-  pub size : length rows ≡ 1024
-  pub counted : count ≡ n
-  pub begins : take (count * 4) rows ≡ bytes
+abbrev pub new_terms : List ℕ → ℕ → Marks → (ℕ → Bool) → List ℕ → List ℕ → List ℕ
+new_terms ts n μ kept tops ranks = laid (λ k. new_bytes (row_at ts k) (μ k) tops ranks) (listed kept 0 n)
 
 -- the terms of the compacted table; condition rows are not asked, so that they may be any
 abbrev pub Keeps : Head → List ℕ → State → ℕ → List ℕ → Type 0

@@ -3,7 +3,6 @@
 #![tactic(auto)]
 
 ghost use Rattle.std.specs.Prelude.{◌≡◌, ◌+◌, ◌*◌, ◌<◌, ◌≤◌, cond, get_or, length};
-ghost use Rattle.std.proofs.Math.Seq.{paste};
 ghost use Rattle.laws.specs.Listed.{written};
 ghost use Rattle.laws.specs.Sums.{count};
 ghost use Rattle.calculus.specs.Process.{pick};
@@ -11,17 +10,23 @@ ghost use Rattle.steps.specs.Marks.{stand, open_branches};
 ghost use Rattle.steps.specs.InFront.{waits_by, passed_by};
 ghost use Rattle.sheet.specs.Table.{table_of, row_at};
 ghost use Rattle.sheet.specs.Accepted.{WellFormed, RowsLent};
+ghost use Rattle.rows.specs.Term.{row_of};
+ghost use Rattle.flags.specs.Flags.{flagged, Shows};
+ghost use Rattle.laying.specs.Told.{Tells};
+ghost use Rattle.laying.specs.LaidIn.{LaidIn};
 ghost use Rattle.layout.specs.Rows.{root};
 ghost use Rattle.layout.specs.Bytes.{four};
 ghost use Rattle.moves.specs.Steps.{remainder_in};
 ghost use Rattle.compacted.specs.Compacted.{compacted_by, compacted_sheet};
 ghost use Rattle.collect.specs.Tops.{top_branch, top_by};
-ghost use Rattle.collect.specs.Kept.{Tells, kept_by, new_bytes, new_terms, LaidIn, Keeps};
+ghost use Rattle.collect.specs.Kept.{kept_by, new_bytes, new_terms, Keeps};
 
+use rows::term::TermRow;
 use sheet::Head;
 use state::State;
 
 // The top of an ACT, OUT or JOIN: of a passed one its child's.
+#[tactic(auto, using(front::proofs::ByKind::passed_mark))]
 fn top_step(row: u8, child: u8, mark: u8, tops: &[u8; 256]) -> u8
     ensures { result ≡ cond (passed_by (stand mark)) (get_or tops.now child 0) row }
 {
@@ -32,6 +37,7 @@ fn top_step(row: u8, child: u8, mark: u8, tops: &[u8; 256]) -> u8
 }
 
 // The top of a PICK: of a decided one its taken branch's.
+#[tactic(auto, unfolding(steps::specs::Marks::open_branches))]
 fn top_pick(row: u8, left: u8, right: u8, mark: u8, tops: &[u8; 256]) -> u8
     ensures { result ≡ top_branch (open_branches pick mark) row (get_or tops.now left 0) (get_or tops.now right 0) }
 {
@@ -43,17 +49,16 @@ fn top_pick(row: u8, left: u8, right: u8, mark: u8, tops: &[u8; 256]) -> u8
 }
 
 // The top of a row, from those of its children.
-fn top_of(ts: &[u8], row: u8, mark: u8, tops: &[u8; 256]) -> u8
-    requires { row * 4 + 4 ≤ length ts.now }
-    ensures { result ≡ top_by row (row_at ts.now row) mark (λ j. get_or tops.now j 0) }
+#[tactic(auto, unfolding(crate::specs::Tops::top_by, steps::specs::Marks::open_branches))]
+fn top_of(node: TermRow, row: u8, mark: u8, tops: &[u8; 256]) -> u8
+    ensures { result ≡ top_by row (row_of node) mark (λ j. get_or tops.now j 0) }
 {
-    let at = row as usize * 4;
-    match ts[at] {
-        1 => top_step(row, ts[at + 2], mark, tops),
-        2 => top_step(row, ts[at + 3], mark, tops),
-        3 => top_step(row, ts[at + 2], mark, tops),
-        4 => top_pick(row, ts[at + 1], ts[at + 2], mark, tops),
-        _ => row,
+    match node {
+        TermRow::Act { child, .. } | TermRow::Out { child, .. } | TermRow::Join { child, .. } => {
+            top_step(row, child, mark, tops)
+        }
+        TermRow::Pick { left, right } => top_pick(row, left, right, mark, tops),
+        TermRow::Nil | TermRow::Flow { .. } => row,
     }
 }
 
@@ -63,12 +68,10 @@ fn tops(ts: &[u8], n: usize, marks: &[u8; 256]) -> [u8; 256]
     ensures { Tells (λ j. root (remainder_in ts.now n (λ k. get_or marks.now k 0) j)) 0 n result }
 {
     let mut table = [0; 256];
-    let mut i = n;
-    while 0 < i {
-        let row = i - 1;
-        let top = top_of(ts, row as u8, marks[row], &table);
+    for row in (0..n).rev() {
+        let node = rows::term::term_row(ts, row);
+        let top = top_of(node, row as u8, marks[row], &table);
         table[row] = top;
-        i = row;
     }
     table
 }
@@ -82,43 +85,32 @@ fn is_kept(live: &[u8; 256], tops: &[u8; 256], row: usize) -> bool
     (live[row] == 1) & (tops[row] == own)
 }
 
-// The rank of each row: how many are kept before it.
-fn ranks(live: &[u8; 256], tops: &[u8; 256], n: usize) -> [u8; 256]
+// The rows that are kept.
+fn kept(live: &[u8; 256], tops: &[u8; 256], n: usize) -> [u8; 256]
     requires { n ≤ 256 }
-    ensures { Tells (count (kept_by live.now tops.now)) 0 n result }
+    ensures { Shows (kept_by live.now tops.now) n result }
 {
-    let mut table = [0; 256];
-    let mut found = 0;
-    let mut i = 0;
-    while i < n {
-        table[i] = found as u8;
-        found += is_kept(live, tops, i) as usize;
-        i += 1;
+    let mut flags = [0; 256];
+    for row in 0..n {
+        flags[row] = is_kept(live, tops, row) as u8;
     }
-    table
-}
-
-// What a table has at a place.
-fn entry(table: &[u8; 256], i: u8) -> u8
-    ensures { result ≡ get_or table.now i 0 }
-{
-    table[i as usize]
+    flags
 }
 
 // The rank of what is left of a child.
 fn rank_of(child: u8, tops: &[u8; 256], ranks: &[u8; 256]) -> u8
     ensures { result ≡ get_or ranks.now (get_or tops.now child 0) 0 }
 {
-    let top = entry(tops, child);
-    entry(ranks, top)
+    let top = tops[child as usize];
+    ranks[top as usize]
 }
 
 // The bytes of an ACT, OUT or JOIN that is kept: of a dropped JOIN those of NIL.
-fn step_row(mark: u8, kind: u8, a: u8, b: u8, c: u8) -> [u8; 4]
-    ensures { result ≡ cond (waits_by (stand mark)) (four kind a b c) (four 0 0 0 0) }
+fn step_row(mark: u8, bytes: [u8; 4]) -> [u8; 4]
+    ensures { result ≡ cond (waits_by (stand mark)) bytes (four 0 0 0 0) }
 {
     if front::waits(mark) {
-        return [kind, a, b, c];
+        return bytes;
     }
     [0, 0, 0, 0]
 }
@@ -133,33 +125,23 @@ fn branch_row(kind: u8, left: u8, right: u8, tops: &[u8; 256], ranks: &[u8; 256]
 }
 
 // The bytes of a row that is kept.
-fn new_row(ts: &[u8], row: usize, mark: u8, tops: &[u8; 256], ranks: &[u8; 256]) -> [u8; 4]
-    requires { row * 4 + 4 ≤ length ts.now }
-    ensures { result ≡ new_bytes (row_at ts.now row) mark tops.now ranks.now }
+fn new_row(node: TermRow, mark: u8, tops: &[u8; 256], ranks: &[u8; 256]) -> [u8; 4]
+    ensures { result ≡ new_bytes (row_of node) mark tops.now ranks.now }
 {
-    let at = row * 4;
-    let a = ts[at + 1];
-    let b = ts[at + 2];
-    let c = ts[at + 3];
-    match ts[at] {
-        1 => step_row(mark, 1, a, rank_of(b, tops, ranks), 0),
-        2 => step_row(mark, 2, a, (b == 1) as u8, rank_of(c, tops, ranks)),
-        3 => step_row(mark, 3, a, rank_of(b, tops, ranks), 0),
-        4 => branch_row(4, a, b, tops, ranks),
-        5 => branch_row(5, a, b, tops, ranks),
-        _ => [0, 0, 0, 0],
+    match node {
+        TermRow::Nil => [0, 0, 0, 0],
+        TermRow::Act { activity, child } => {
+            step_row(mark, [1, activity, rank_of(child, tops, ranks), 0])
+        }
+        TermRow::Out { link, value, child } => {
+            step_row(mark, [2, link, value as u8, rank_of(child, tops, ranks)])
+        }
+        TermRow::Join { condition, child } => {
+            step_row(mark, [3, condition, rank_of(child, tops, ranks), 0])
+        }
+        TermRow::Pick { left, right } => branch_row(4, left, right, tops, ranks),
+        TermRow::Flow { left, right } => branch_row(5, left, right, tops, ranks),
     }
-}
-
-// A row's bytes into the array.
-fn put(out: &mut [u8; 1024], at: usize, row: [u8; 4])
-    requires { ((length out.old ≡ 1024) × (length row ≡ 4)) × (at + 4 ≤ 1024) }
-    ensures { out.new ≡ paste out.old at row 4 }
-{
-    out[at] = row[0];
-    out[at + 1] = row[1];
-    out[at + 2] = row[2];
-    out[at + 3] = row[3];
 }
 
 // The rows that are kept, in their old order, into the array; and how many.
@@ -167,41 +149,39 @@ fn new_rows(
     ts: &[u8],
     n: usize,
     marks: &[u8; 256],
-    live: &[u8; 256],
+    kept: &[u8; 256],
     tops: &[u8; 256],
     ranks: &[u8; 256],
-    out: &mut [u8; 1024],
+    out: &mut [u8],
 ) -> usize
-    requires { ((n ≤ 256) × (n * 4 ≤ length ts.now)) × (length out.old ≡ 1024) }
-    ensures { LaidIn (count (kept_by live.now tops.now) n) (new_terms ts.now n (λ k. get_or marks.now k 0) live.now tops.now ranks.now) result out.new }
+    requires { ((n ≤ 256) × (n * 4 ≤ length ts.now)) × (n * 4 ≤ length out.old) }
+    ensures { LaidIn (count (flagged kept.now) n) (new_terms ts.now n (λ k. get_or marks.now k 0) (flagged kept.now) tops.now ranks.now) result out.new }
 {
     let mut count = 0;
-    let mut i = 0;
-    while i < n {
-        if is_kept(live, tops, i) {
-            let row = new_row(ts, i, marks[i], tops, ranks);
-            put(out, count * 4, row);
+    for i in 0..n {
+        if kept[i] == 1 {
+            let row = new_row(rows::term::term_row(ts, i), marks[i], tops, ranks);
+            laying::put(out, count * 4, row);
             count += 1;
-            i += 1;
-        } else {
-            i += 1;
         }
     }
     count
 }
 
 // The terms of the compacted table into the array, and how many rows they are.
-fn kept_rows(h: Head, ts: &[u8], s: State, out: &mut [u8; 1024]) -> usize
-    requires { RowsLent ts.now h.n × (length out.old ≡ 1024) }
+fn kept_rows(h: Head, ts: &[u8], s: State, out: &mut [u8]) -> usize
+    requires { RowsLent ts.now h.n × (h.n * 4 ≤ length out.old) }
     ensures { Keeps h ts.now s result out.new }
 {
-    let live = front::ask(front::LIVE, ts, h.n, &s.marks);
+    let live = front::ask(front::Question::Live, ts, h.n, &s.marks);
     let tops = tops(ts, h.n, &s.marks);
-    let ranks = ranks(&live, &tops, h.n);
-    new_rows(ts, h.n, &s.marks, &live, &tops, &ranks, out)
+    let kept = kept(&live, &tops, h.n);
+    let ranks = laying::ranks(&kept, h.n);
+    new_rows(ts, h.n, &s.marks, &kept, &tops, &ranks, out)
 }
 
 // The evaluation of the compacted sheet: 2 for strict, 3 for lazy; that of a compacted one stays.
+#[tactic(auto, unfolding(compacted::specs::Compacted::compacted_by))]
 fn compacted_by(evaluation: u8) -> u8
     ensures { result ≡ compacted_by evaluation }
 {

@@ -19,7 +19,7 @@ fn act(ts: &[u8], row: usize, mark: u8, live: u8) -> bool
     requires { row * 4 + 4 ≤ length ts.now }
     ensures { result ≡ (waiting_act (row_at ts.now row) mark && eqb live 1) }
 {
-    ((ts[row * 4] == 1) & front::waits(mark)) & (live == 1)
+    (rows::term::term_row(ts, row).is_act() & front::waits(mark)) & (live == 1)
 }
 
 // The ACT rows in the remainder, from the rows that are live. There are at most 255: the last row is a NIL.
@@ -28,10 +28,8 @@ pub fn acts(ts: &[u8], n: usize, marks: &[u8; 256], live: &[u8; 256]) -> u8
     ensures { result ≡ acts_of (remainder_in ts.now n (λ k. get_or marks.now k 0) 0) }
 {
     let mut found: u8 = 0;
-    let mut row = 0;
-    while row < n {
+    for row in 0..n {
         found += act(ts, row, marks[row], live[row]) as u8;
-        row += 1;
     }
     found
 }
@@ -49,10 +47,8 @@ pub fn unset(m: usize, links: &[u8; 64]) -> u8
     ensures { result ≡ unset_of m (links_in links.now) }
 {
     let mut found: u8 = 0;
-    let mut link = 0;
-    while link < m {
+    for link in 0..m {
         found += unset_byte(links[link]) as u8;
-        link += 1;
     }
     found
 }
@@ -62,7 +58,7 @@ pub fn counted(m: usize, ts: &[u8], n: usize, z: State) -> State
     requires { (m ≤ 64) × RowsLent ts.now n }
     ensures { result ≡ counted_in m ts.now n z }
 {
-    let live = front::ask(front::LIVE, ts, n, &z.marks);
+    let live = front::ask(front::Question::Live, ts, n, &z.marks);
     let left = acts(ts, n, &z.marks, &live);
     let unknown = unset(m, &z.links);
     z.with_counts(left, unknown)

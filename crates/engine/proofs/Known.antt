@@ -30,6 +30,7 @@ use Rattle.state.specs.declared.StepKind.TheVariants.{Act, Set, Open, Clean, Ref
 use Rattle.moves.specs.Steps.{mode_of, marks_of, links_of, nodes, turn_by, turn_at, kind_of, kind_by, kind_turned, kind_at, has_step, is_some, counted, stepped_by, stepped_of, taken_of, dropped_of}
 use Rattle.flags.specs.Flags.{flagged, Shows}
 use Rattle.flags.proofs.Shown.{shown}
+use Rattle.front.specs.declared.Question.TheVariants.{Reached}
 use Rattle.front.specs.Asked.{asked_at}
 use Rattle.front.proofs.Asking.{asked_reached}
 use Rattle.effects.specs.Gather.{OwnBelow}
@@ -87,10 +88,10 @@ from_none ts n mode μ seen f r h = rw (le-ltb r n h) refl
 
 -- the tables know what is reached and what the conditions are worth
 pub record Knows (t : Table) (s : State) (seen vals : List ℕ) : Type 0 where
-  pub seen_shows : Shows (asked_at 0 (nodes t) (marks_of s)) t.n seen
+  pub seen_shows : Shows (asked_at Reached (nodes t) (marks_of s)) t.n seen
   pub vals_known : Evaluated t.evaluation t.conditions (links_of s) t.k vals
 
-pub knows : {t : Table} {s : State} {seen vals : List ℕ} → Shows (asked_at 0 (nodes t) (marks_of s)) t.n seen → Evaluated t.evaluation t.conditions (links_of s) t.k vals → Knows t s seen vals
+pub knows : {t : Table} {s : State} {seen vals : List ℕ} → Shows (asked_at Reached (nodes t) (marks_of s)) t.n seen → Evaluated t.evaluation t.conditions (links_of s) t.k vals → Knows t s seen vals
 knows g h = record { seen_shows = g; vals_known = h }
 
 same_kind : (r mode : ℕ) (N : Row) (f g : ℕ → ℕ) → ((q c : ℕ) → N ≡ PREFIX (join q) c → f q ≡ g q) → row_kind r mode N f ≡ row_kind r mode N g

@@ -88,7 +88,7 @@ pub fn kind(h: Head, ts: &[u8], cs: &[u8], s: State, row: usize) -> StepKind
     requires { WellFormed (table_of h ts.now cs.now) }
     ensures { result ≡ kind_at (table_of h ts.now cs.now) s row }
 {
-    let reached = front::ask(front::REACHED, ts, h.n, &s.marks);
+    let reached = front::ask(front::Question::Reached, ts, h.n, &s.marks);
     let vals = evaluate::values(h.evaluation, cs, h.k, &s.links);
     kind_from(ts, h.n, s.mode, &s.marks, &reached, &vals, row)
 }
@@ -179,7 +179,7 @@ pub fn list(h: Head, ts: &[u8], cs: &[u8], s: State, out: &mut [u8]) -> usize
     requires { WellFormed (table_of h ts.now cs.now) }
     ensures { (result ≡ length (listed_of (table_of h ts.now cs.now) s)) × (out.new ≡ written (listed_of (table_of h ts.now cs.now) s) out.old) }
 {
-    let reached = front::ask(front::REACHED, ts, h.n, &s.marks);
+    let reached = front::ask(front::Question::Reached, ts, h.n, &s.marks);
     let vals = evaluate::values(h.evaluation, cs, h.k, &s.links);
     let mut flags = [0; 256];
     show_steps(&mut flags, ts, h.n, s.mode, &s.marks, &reached, &vals);
@@ -240,7 +240,7 @@ pub fn stand(h: Head, ts: &[u8], cs: &[u8], s: State, out: &mut [u8]) -> Standin
     requires { WellFormed (table_of h ts.now cs.now) }
     ensures { (result.steps ≡ length (listed_of (table_of h ts.now cs.now) s)) × ((result.waiting ≡ length (waiting_of (table_of h ts.now cs.now) s)) × (out.new ≡ written (waiting_of (table_of h ts.now cs.now) s) out.old)) }
 {
-    let reached = front::ask(front::REACHED, ts, h.n, &s.marks);
+    let reached = front::ask(front::Question::Reached, ts, h.n, &s.marks);
     let vals = evaluate::values(h.evaluation, cs, h.k, &s.links);
     stand_by(ts, h.n, s.mode, &s.marks, &reached, &vals, out)
 }
@@ -250,7 +250,7 @@ pub fn wait(h: Head, ts: &[u8], cs: &[u8], s: State, out: &mut [u8]) -> usize
     requires { WellFormed (table_of h ts.now cs.now) }
     ensures { (result ≡ length (waiting_of (table_of h ts.now cs.now) s)) × (out.new ≡ written (awaits_of (table_of h ts.now cs.now) s) out.old) }
 {
-    let reached = front::ask(front::REACHED, ts, h.n, &s.marks);
+    let reached = front::ask(front::Question::Reached, ts, h.n, &s.marks);
     let vals = evaluate::values(h.evaluation, cs, h.k, &s.links);
     let mut rows = [0; 256];
     let found = stand_by(ts, h.n, s.mode, &s.marks, &reached, &vals, &mut rows);

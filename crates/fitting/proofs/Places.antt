@@ -26,6 +26,7 @@ use Rattle.moves.specs.Steps.{marks_of, links_of, remainder_in, acts_of, unset_o
 use Rattle.moves.specs.Fits.{suits, marks_fit, mark_ok, link_ok, wait_ok, clear_row, clear_ok, clear_fit, counts_ok, counts_fit}
 use Rattle.flags.specs.Flags.{flagged, Shows}
 use Rattle.flags.proofs.Shown.{shown}
+use Rattle.front.specs.declared.Question.TheVariants.{Held}
 use Rattle.front.specs.Asked.{asked_at, ShowsLive}
 use Rattle.front.proofs.Asking.{asked_held, asked_live}
 use Rattle.fitting.specs.Checks.{from_e, from_d, rest_fit}
@@ -70,7 +71,7 @@ unfolding link_ok
 link_read m links l r e = sym e
 
 module _ (ts : List ℕ) (μ : Marks) (n : ℕ) (t : List ℕ) (i : ℕ) (h : i < n) (r : Bool) where
-  pub wait_read : Shows (asked_at 1 (row_at ts) μ) n t → r ≡ or (not (flagged t i)) (waiting (row_at ts i) (μ i)) → wait_ok ts μ i ≡ r
+  pub wait_read : Shows (asked_at Held (row_at ts) μ) n t → r ≡ or (not (flagged t i)) (waiting (row_at ts i) (μ i)) → wait_ok ts μ i ≡ r
   unfolding wait_ok
   wait_read s e = sym (e ∙ ap (λ (b : Bool). or (not b) (waiting (row_at ts i) (μ i))) (shown _ n t s i h ∙ asked_held ts μ i))
 

@@ -164,7 +164,7 @@ fn bad_wait(ts: &[u8], n: usize, marks: &[u8; 256]) -> usize
     requires { RowsLent ts.now n }
     ensures { result ≡ place_of (waits_fit ts.now n (λ k. get_or marks.now k 0)) }
 {
-    let held = front::ask(front::HELD, ts, n, marks);
+    let held = front::ask(front::Question::Held, ts, n, marks);
     for row in 0..n {
         if !wait_ok(held[row], ts, row, marks[row]) {
             return row;
@@ -197,7 +197,7 @@ fn fit_clear(m: usize, n: usize, ts: &[u8], s: State) -> Result<(), Refusal>
     requires { (m ≤ 64) × RowsLent ts.now n }
     ensures { result ≡ checked no (Ok tt) (from_d m n ts.now s) }
 {
-    let live = front::ask(front::LIVE, ts, n, &s.marks);
+    let live = front::ask(front::Question::Live, ts, n, &s.marks);
     let place = bad_clear(ts, n, &s.marks, &s.links, &live);
     if place < n {
         return Err(Refusal { number: 10, place });

@@ -15,6 +15,8 @@ use Rattle.steps.proofs.Push.{pushed_none, pushed_own, pushed_all, pushed_more}
 use Rattle.sheet.specs.Table.{row_at}
 use Rattle.moves.specs.Fits.{held, live}
 use Rattle.flags.specs.Flags.{flagged, Shows}
+use Rattle.front.specs.declared.Question.{Question}
+use Rattle.front.specs.declared.Question.TheVariants.{Reached, Held, Live}
 use Rattle.front.specs.Asked.{next_by, next_of, top_of, asked_at}
 
 start : (b : Bool) → set (replicate 256 0) 0 (bit b) ≡ set_if b 0 (replicate 256 0)
@@ -22,7 +24,7 @@ unfolding set_if
 start true = refl
 start false = refl
 
-module _ (q : ℕ) (node : ℕ → Row) (μ : Marks) (n : ℕ) (tree : Tree node n) (few : n ≤ 256) where
+module _ (q : Question) (node : ℕ → Row) (μ : Marks) (n : ℕ) (tree : Tree node n) (few : n ≤ 256) where
   pub asked_none : (x : ℕ) → x ≡ bit (top_of q) → Pushed node (asked_at q node μ) n 0 (set (replicate 256 0) 0 x)
   unfolding asked_at
   asked_none x e = rw (e, start (top_of q)) (pushed_none node n tree few (top_of q) (λ p s b. next_of q (node p) (μ p) s b))
@@ -41,14 +43,14 @@ module _ (q : ℕ) (node : ℕ → Row) (μ : Marks) (n : ℕ) (tree : Tree node
   asked_all t p = let (l, f) = pushed_all node n tree few (top_of q) (λ p s b. next_of q (node p) (μ p) s b) t p in record { size = l; at = f }
 
 -- the questions, by their names
-pub asked_reached : (node : ℕ → Row) (μ : Marks) (i : ℕ) → asked_at 0 node μ i ≡ reached node μ i
+pub asked_reached : (node : ℕ → Row) (μ : Marks) (i : ℕ) → asked_at Reached node μ i ≡ reached node μ i
 unfolding asked_at next_of next_by top_of reached
 asked_reached node μ i = refl
 
-pub asked_held : (ts : List ℕ) (μ : Marks) (i : ℕ) → asked_at 1 (row_at ts) μ i ≡ held ts μ i
+pub asked_held : (ts : List ℕ) (μ : Marks) (i : ℕ) → asked_at Held (row_at ts) μ i ≡ held ts μ i
 unfolding asked_at next_of next_by top_of held
 asked_held ts μ i = refl
 
-pub asked_live : (ts : List ℕ) (μ : Marks) (i : ℕ) → asked_at 2 (row_at ts) μ i ≡ live ts μ i
+pub asked_live : (ts : List ℕ) (μ : Marks) (i : ℕ) → asked_at Live (row_at ts) μ i ≡ live ts μ i
 unfolding asked_at next_of next_by top_of live
 asked_live ts μ i = refl

@@ -1,20 +1,21 @@
 -- What the tests of a row are, by the kind in its bytes, and of a mode. Assumes nothing.
 use Prim.Native.Nat.{ℕ}
-use mathlib.Core.Path.{◌≡◌, refl, ◌∙◌}
-use mathlib.Core.Bool.{Bool, true, false, cond, ◌&&◌, ◌||◌, not}
+use mathlib.Core.Path.{◌≡◌, refl, sym, ◌∙◌}
+use mathlib.Core.Bool.{Bool, true, false, cond, ◌&&◌, not}
 use mathlib.Core.List.{List}
 use lib.Dec.{eqb}
-use borrow.Author.Tests.{eqb-true, ne_eqb}
-use Rattle.laws.proofs.Tests.{and_false, or_is, or_none}
-use Rattle.calculus.specs.Process.{Prefix, act, out, join, pick, flow}
+use borrow.Author.Tests.{eqb-true}
+use Rattle.laws.proofs.Tests.{and_false, or_none}
+use Rattle.calculus.specs.Process.{Prefix, pick, flow}
 use Rattle.calculus.specs.Places.{plain, cleaning, cleans}
 use Rattle.steps.specs.Rows.{Row, NIL, PREFIX, BRANCH, first_of, second_of}
 use Rattle.steps.specs.Marks.{stand_by, stand, open_by, open_branches}
 use Rattle.steps.specs.InFront.{waits_by, passed_by, undecided, waiting_step, opens, leads}
 use Rattle.steps.specs.Push.{set_if, handed}
-use Rattle.sheet.specs.Table.{row_by}
 use Rattle.moves.specs.Steps.{mode_of}
 use Rattle.moves.specs.Fits.{keeps_by, keeps}
+use Rattle.front.specs.declared.Question.{Question}
+use Rattle.front.specs.declared.Question.TheVariants.{Reached, Held, Live}
 use Rattle.front.specs.Asked.{next_by, next_of}
 
 pub passed_mark : (m : ℕ) → passed_by (stand m) ≡ eqb m 1
@@ -56,72 +57,17 @@ keeps_mark m = at (eqb m 1) (eqb m 4) (one_not_four m)
     at false true h = refl
     at false false h = refl
 
-pub keeps_other : (N : Row) (m : ℕ) (s : Bool) → N ≡ NIL → keeps N m s ≡ false
-unfolding keeps
-keeps_other N m s e = rw e refl
-
--- a row that is no ACT, OUT or JOIN
-pub waiting_other : (kind a b c m : ℕ) → eqb kind 1 ≡ false → eqb kind 2 ≡ false → eqb kind 3 ≡ false → waiting_step (row_by kind a b c) m ≡ false
-unfolding row_by waiting_step
-waiting_other kind a b c m p q r = rw (p, q, r) (at (eqb kind 0) (eqb kind 4) (eqb kind 5))
-  where
-    at : (x y z : Bool) → waiting_step (cond x NIL (cond y (BRANCH pick a b) (cond z (BRANCH flow a b) NIL))) m ≡ false
-    at true y z = refl
-    at false true z = refl
-    at false false true = refl
-    at false false false = refl
-
--- what a row hands down, by what is asked
-module _ (q : ℕ) (leads waits keeps b : Bool) where
-  pub next_reached : q ≡ 0 → b && leads ≡ next_by q leads waits keeps b
-  unfolding next_by
-  next_reached e = rw e refl
-
-  pub next_held : q ≡ 1 → b || waits ≡ next_by q leads waits keeps b
-  unfolding next_by
-  next_held e = rw (e, or_is b waits) refl
-
-  pub next_live : (q ≡ 0 → ⊥) → (q ≡ 1 → ⊥) → b && keeps ≡ next_by q leads waits keeps b
-  unfolding next_by
-  next_live e f = rw (ne_eqb q 0 e, ne_eqb q 1 f) refl
-
 -- a FLOW hands on what it was handed
-next_flow : (q : ℕ) (b : Bool) → b ≡ next_by q true false true b
+next_flow : (q : Question) (b : Bool) → b ≡ next_by q true false true b
 unfolding next_by
-next_flow q b = rw (or_none b) (at b (eqb q 0) (eqb q 1))
-  where
-    at : (b x y : Bool) → b ≡ cond x (b && true) (cond y b (b && true))
-    at true true y = refl
-    at true false true = refl
-    at true false false = refl
-    at false true y = refl
-    at false false true = refl
-    at false false false = refl
-
--- what a row is by its kind
-module _ (kind a b c : ℕ) where
-  pub row_act : kind ≡ 1 → row_by kind a b c ≡ PREFIX (act a) b
-  unfolding row_by
-  row_act e = rw e refl
-
-  pub row_out : kind ≡ 2 → row_by kind a b c ≡ PREFIX (out a (eqb b 1)) c
-  unfolding row_by
-  row_out e = rw e refl
-
-  pub row_join : kind ≡ 3 → row_by kind a b c ≡ PREFIX (join a) b
-  unfolding row_by
-  row_join e = rw e refl
-
-  pub row_pick : kind ≡ 4 → row_by kind a b c ≡ BRANCH pick a b
-  unfolding row_by
-  row_pick e = rw e refl
-
-  pub row_flow : kind ≡ 5 → row_by kind a b c ≡ BRANCH flow a b
-  unfolding row_by
-  row_flow e = rw e refl
+next_flow Reached true = refl
+next_flow Reached false = refl
+next_flow Held b = sym (or_none b)
+next_flow Live true = refl
+next_flow Live false = refl
 
 -- a table before and after a row has handed down what is asked
-module _ (q m : ℕ) (own : Bool) (t u : List ℕ) (N : Row) where
+module _ (q : Question) (m : ℕ) (own : Bool) (t u : List ℕ) (N : Row) where
   abbrev Hands : Type 0
   Hands = u ≡ handed t N (next_of q N m false own) (next_of q N m true own)
 

@@ -13,15 +13,19 @@ ghost use Rattle.sheet.specs.Table.{row_at};
 ghost use Rattle.sheet.specs.Accepted.{RowsLent};
 ghost use Rattle.moves.specs.Steps.{mode_of};
 ghost use Rattle.moves.specs.Fits.{keeps_by, keeps};
+ghost use Rattle.rows.specs.Term.{row_of};
 ghost use Rattle.flags.specs.Flags.{Shows};
 ghost use Rattle.front.specs.Asked.{next_by, next_of, top_of, asked_at};
 
-// What is asked of a row.
-pub const REACHED: u8 = 0;
+use rows::term::TermRow;
 
-pub const HELD: u8 = 1;
-
-pub const LIVE: u8 = 2;
+// What is asked of a row: whether one reaches it, whether it is held, whether it is live.
+#[derive(Clone, Copy)]
+pub enum Question {
+    Reached,
+    Held,
+    Live,
+}
 
 // The mode drops a JOIN whose condition is false.
 pub fn cleans(mode: u8) -> bool
@@ -45,6 +49,7 @@ pub fn undecided(mark: u8) -> bool
 }
 
 // A branch of a PICK is open.
+#[tactic(auto, unfolding(steps::specs::Marks::open_branches, steps::specs::InFront::opens))]
 fn opens(mark: u8, right: bool) -> bool
     ensures { result ≡ opens (open_branches pick mark) right }
 {
@@ -56,71 +61,70 @@ fn opens(mark: u8, right: bool) -> bool
 }
 
 // A waiting ACT, OUT or JOIN.
+#[tactic(auto, unfolding(steps::specs::InFront::waiting_step))]
 pub fn waiting_step(ts: &[u8], row: usize, mark: u8) -> bool
     requires { row * 4 + 4 ≤ length ts.now }
     ensures { result ≡ waiting_step (row_at ts.now row) mark }
 {
-    match ts[row * 4] {
-        1 => waits(mark),
-        2 => waits(mark),
-        3 => waits(mark),
+    match rows::term::term_row(ts, row) {
+        TermRow::Act { .. } | TermRow::Out { .. } | TermRow::Join { .. } => waits(mark),
         _ => false,
     }
 }
 
 // The row's remainder has what is below it.
+#[tactic(auto, using(crate::proofs::ByKind::keeps_mark), unfolding(moves::specs::Fits::keeps, steps::specs::Marks::open_branches, steps::specs::InFront::opens))]
 pub fn keeps(ts: &[u8], row: usize, mark: u8, right: bool) -> bool
     requires { row * 4 + 4 ≤ length ts.now }
     ensures { result ≡ keeps (row_at ts.now row) mark right }
 {
-    match ts[row * 4] {
-        1 => mark != 4,
-        2 => mark != 4,
-        3 => mark != 4,
-        4 => opens(mark, right),
-        5 => true,
-        _ => false,
+    match rows::term::term_row(ts, row) {
+        TermRow::Nil => false,
+        TermRow::Act { .. } | TermRow::Out { .. } | TermRow::Join { .. } => mark != 4,
+        TermRow::Pick { .. } => opens(mark, right),
+        TermRow::Flow { .. } => true,
     }
 }
 
 // What a row hands to a child, by what it was handed itself: whether one goes on from it, it is a waiting step, its remainder has what is below.
-fn next_by(asked: u8, leads: bool, waits: bool, keeps: bool, own: bool) -> bool
-    ensures { result ≡ next_by asked leads waits keeps own }
+#[tactic(auto, using(laws::proofs::Tests::or_is), unfolding(crate::specs::Asked::next_by))]
+fn next_by(question: Question, leads: bool, waits: bool, keeps: bool, own: bool) -> bool
+    ensures { result ≡ next_by question leads waits keeps own }
 {
-    if asked == REACHED {
-        return own & leads;
+    match question {
+        Question::Reached => own & leads,
+        Question::Held => own | waits,
+        Question::Live => own & keeps,
     }
-    if asked == HELD {
-        return own | waits;
-    }
-    own & keeps
 }
 
 // An ACT, OUT or JOIN.
-fn step_next(asked: u8, mark: u8, own: bool) -> bool
-    ensures { result ≡ next_by asked (passed_by (stand mark)) (waits_by (stand mark)) (keeps_by (stand mark)) own }
+fn step_next(question: Question, mark: u8, own: bool) -> bool
+    ensures { result ≡ next_by question (passed_by (stand mark)) (waits_by (stand mark)) (keeps_by (stand mark)) own }
 {
-    next_by(asked, mark == 1, waits(mark), mark != 4, own)
+    next_by(question, mark == 1, waits(mark), mark != 4, own)
 }
 
 // A PICK.
-fn pick_next(asked: u8, mark: u8, right: bool, own: bool) -> bool
-    ensures { result ≡ next_by asked (opens (open_branches pick mark) right) false (opens (open_branches pick mark) right) own }
+fn pick_next(question: Question, mark: u8, right: bool, own: bool) -> bool
+    ensures { result ≡ next_by question (opens (open_branches pick mark) right) false (opens (open_branches pick mark) right) own }
 {
     let open = opens(mark, right);
-    next_by(asked, open, false, open, own)
+    next_by(question, open, false, open, own)
 }
 
 // The answer for row 0.
-fn top(asked: u8) -> u8
-    ensures { result ≡ bit (top_of asked) }
+#[tactic(auto, unfolding(crate::specs::Asked::top_of))]
+fn top(question: Question) -> u8
+    ensures { result ≡ bit (top_of question) }
 {
-    if asked == HELD {
-        return 0;
+    match question {
+        Question::Held => 0,
+        _ => 1,
     }
-    1
 }
 
+#[tactic(auto, unfolding(steps::specs::Push::set_if))]
 fn mark_child(table: &mut [u8; 256], child: u8, on: bool)
     ensures { table.new ≡ set_if (on && not (eqb child 0)) child table.old }
 {
@@ -137,39 +141,36 @@ fn mark_both(table: &mut [u8; 256], x: u8, y: u8, a: bool, b: bool)
 }
 
 // A row hands what was asked to its children.
-fn hand(table: &mut [u8; 256], asked: u8, ts: &[u8], row: usize, mark: u8, own: bool)
-    requires { row * 4 + 4 ≤ length ts.now }
-    ensures { table.new ≡ handed table.old (row_at ts.now row) (next_of asked (row_at ts.now row) mark false own) (next_of asked (row_at ts.now row) mark true own) }
+fn hand(table: &mut [u8; 256], question: Question, node: TermRow, mark: u8, own: bool)
+    ensures { table.new ≡ handed table.old (row_of node) (next_of question (row_of node) mark false own) (next_of question (row_of node) mark true own) }
 {
-    let at = row * 4;
-    match ts[at] {
-        1 => mark_child(table, ts[at + 2], step_next(asked, mark, own)),
-        2 => mark_child(table, ts[at + 3], step_next(asked, mark, own)),
-        3 => mark_child(table, ts[at + 2], step_next(asked, mark, own)),
-        4 => mark_both(
+    match node {
+        TermRow::Nil => {}
+        TermRow::Act { child, .. } | TermRow::Out { child, .. } | TermRow::Join { child, .. } => {
+            mark_child(table, child, step_next(question, mark, own))
+        }
+        TermRow::Pick { left, right } => mark_both(
             table,
-            ts[at + 1],
-            ts[at + 2],
-            pick_next(asked, mark, false, own),
-            pick_next(asked, mark, true, own),
+            left,
+            right,
+            pick_next(question, mark, false, own),
+            pick_next(question, mark, true, own),
         ),
-        5 => mark_both(table, ts[at + 1], ts[at + 2], own, own),
-        _ => {}
+        TermRow::Flow { left, right } => mark_both(table, left, right, own, own),
     }
 }
 
 // The answer for each row.
-pub fn ask(asked: u8, ts: &[u8], n: usize, marks: &[u8; 256]) -> [u8; 256]
+pub fn ask(question: Question, ts: &[u8], n: usize, marks: &[u8; 256]) -> [u8; 256]
     requires { RowsLent ts.now n }
-    ensures { Shows (asked_at asked (row_at ts.now) (λ k. get_or marks.now k 0)) n result }
+    ensures { Shows (asked_at question (row_at ts.now) (λ k. get_or marks.now k 0)) n result }
 {
     let mut table = [0; 256];
-    table[0] = top(asked);
-    let mut i = 0;
-    while i < n {
+    table[0] = top(question);
+    for i in 0..n {
         let own = table[i] == 1;
-        hand(&mut table, asked, ts, i, marks[i], own);
-        i += 1;
+        let node = rows::term::term_row(ts, i);
+        hand(&mut table, question, node, marks[i], own);
     }
     table
 }

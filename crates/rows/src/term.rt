@@ -3,7 +3,7 @@
 #![tactic(auto)]
 
 ghost use Rattle.std.specs.Prelude.{◌≡◌, ◌+◌, ◌*◌, ◌≤◌, length};
-ghost use Rattle.steps.specs.Rows.{first_of, second_of};
+ghost use Rattle.steps.specs.Rows.{first_of, second_of, is_act};
 ghost use Rattle.sheet.specs.Table.{row_by, row_at};
 ghost use Rattle.rows.specs.Term.{row_of};
 
@@ -40,8 +40,15 @@ impl TermRow {
     {
         match self {
             TermRow::Pick { right, .. } | TermRow::Flow { right, .. } => right,
-            TermRow::Nil | TermRow::Act { .. } | TermRow::Out { .. } | TermRow::Join { .. } => 0,
+            _ => 0,
         }
+    }
+
+    #[tactic(auto, unfolding(steps::specs::Rows::is_act, steps::specs::Rows::is_act_prefix))]
+    pub fn is_act(self) -> bool
+        ensures { result ≡ is_act (row_of self) }
+    {
+        matches!(self, TermRow::Act { .. })
     }
 }
 

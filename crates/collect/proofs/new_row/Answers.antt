@@ -1,32 +1,28 @@
-use mathlib.Core.Path.{refl}
-use borrow.Author.Tests.{ne_eqb}
-use Rattle.sheet.specs.Table.{row_at}
-use Rattle.sheet.proofs.Rows.{row_other}
+use mathlib.Core.Path.{refl, ap}
+use Rattle.rows.specs.Term.{row_of}
 use Rattle.layout.specs.Bytes.{row_bytes}
-use Rattle.front.proofs.ByKind.{row_act, row_out, row_join, row_pick, row_flow}
 use Rattle.collect.proofs.NewRows.{new_step, new_branch, new_nil}
 use Rattle.collect.proofs.new_row.Goals as goal
 
-pub returns-in-1 : goal.returns-in-1
-unfolding row_at row_bytes
-returns-in-1 c = new_step _ _ _ _ _ (row_act _ _ _ _ c.in-1.is) (rw (← c.rank_of.ensures) c.step_row.ensures)
+pub returns-in-Nil : goal.returns-in-Nil
+returns-in-Nil c = new_nil _ _ _ _ _ (ap row_of c.in-Nil.is) refl
 
-pub returns-in-2 : goal.returns-in-2
-unfolding row_at row_bytes
-returns-in-2 c = new_step _ _ _ _ _ (row_out _ _ _ _ c.in-2.is) (rw (← c.rank_of-in-2.ensures) c.step_row-in-2.ensures)
+pub returns-in-Act : goal.returns-in-Act
+unfolding row_bytes
+returns-in-Act c = new_step _ _ _ _ _ (ap row_of c.in-Act.is) (rw (← c.rank_of.ensures) c.step_row.ensures)
 
-pub returns-in-3 : goal.returns-in-3
-unfolding row_at row_bytes
-returns-in-3 c = new_step _ _ _ _ _ (row_join _ _ _ _ c.in-3.is) (rw (← c.rank_of-in-3.ensures) c.step_row-in-3.ensures)
+pub returns-in-Out : goal.returns-in-Out
+unfolding row_bytes
+returns-in-Out c = new_step _ _ _ _ _ (ap row_of c.in-Out.is) (rw (← c.rank_of-in-Out.ensures) c.step_row-in-Out.ensures)
 
-pub returns-in-4 : goal.returns-in-4
-unfolding row_at row_bytes
-returns-in-4 c = new_branch _ _ _ _ _ (row_pick _ _ _ _ c.in-4.is) c.branch_row.ensures
+pub returns-in-Join : goal.returns-in-Join
+unfolding row_bytes
+returns-in-Join c = new_step _ _ _ _ _ (ap row_of c.in-Join.is) (rw (← c.rank_of-in-Join.ensures) c.step_row-in-Join.ensures)
 
-pub returns-in-5 : goal.returns-in-5
-unfolding row_at row_bytes
-returns-in-5 c = new_branch _ _ _ _ _ (row_flow _ _ _ _ c.in-5.is) c.branch_row-in-5.ensures
+pub returns-in-Pick : goal.returns-in-Pick
+unfolding row_bytes
+returns-in-Pick c = new_branch _ _ _ _ _ (ap row_of c.in-Pick.is) c.branch_row.ensures
 
-pub returns-in_default : goal.returns-in_default
-unfolding row_at
-returns-in_default c = let m = c.in_default.in_default-own.rest in new_nil _ _ _ _ _ (row_other _ _ _ _ (ne_eqb _ 1 m.0.0.0.0.1) (ne_eqb _ 2 m.0.0.0.1) (ne_eqb _ 3 m.0.0.1) (ne_eqb _ 4 m.0.1) (ne_eqb _ 5 m.1)) refl
+pub returns-in-Flow : goal.returns-in-Flow
+unfolding row_bytes
+returns-in-Flow c = new_branch _ _ _ _ _ (ap row_of c.in-Flow.is) c.branch_row-in-Flow.ensures

@@ -1,4 +1,3 @@
-use Prim.Native.Nat.{◌-◌, ◌≤◌}
 use mathlib.Core.Path.{◌≡◌}
 use mathlib.Core.Bool.{◌&&◌}
 use lib.ListN.{get_or}
@@ -9,7 +8,4 @@ use Rattle.flags.specs.Flags.{flagged}
 use Rattle.counts.proofs.acts.Given as goal
 
 abbrev pub invariant-loop-row : goal.invariant-loop-row
-invariant-loop-row l = (l.row ≤ l.n) × (l.found ≡ count (λ k. waiting_act (row_at l.ts k) (get_or l.marks k 0) && flagged l.live k) l.row)
-
-abbrev pub decreases-loop-row : goal.decreases-loop-row
-decreases-loop-row l = l.n - l.row
+invariant-loop-row l = l.found ≡ count (λ k. waiting_act (row_at l.ts k) (get_or l.marks k 0) && flagged l.live k) l.row

@@ -1,4 +1,3 @@
-use Prim.Native.Nat.{◌≤◌, ◌-◌}
 use mathlib.Core.Path.{◌≡◌}
 use mathlib.Core.Bool.{not}
 use lib.ListN.{get_or}
@@ -8,7 +7,4 @@ use Rattle.conditions.specs.Numbers.{undigit}
 use Rattle.counts.proofs.unset.Given as goal
 
 abbrev pub invariant-loop-link : goal.invariant-loop-link
-invariant-loop-link l = (l.link ≤ l.m) × (l.found ≡ count (λ k. not (is_set (undigit (get_or l.links k 0)))) l.link)
-
-abbrev pub decreases-loop-link : goal.decreases-loop-link
-decreases-loop-link l = l.m - l.link
+invariant-loop-link l = l.found ≡ count (λ k. not (is_set (undigit (get_or l.links k 0)))) l.link

@@ -1,4 +1,0 @@
-use Rattle.counts.proofs.counted.Goals as goal
-
-pub returns : goal.returns
-returns c = cc
