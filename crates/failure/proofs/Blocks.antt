@@ -54,7 +54,7 @@ module _ (p : ℕ → Bool) (x word : ℕ) (o : Failing p x word) where
     first_lane : first < 64
     first_lane = rw (trailing_lowest 64 word) (bits_some 64 word small some)
 
-    pub first_fails : p (x + first) ≡ false
+    first_fails : p (x + first) ≡ false
     first_fails =
         let k : lowest (λ j. not (has_bit word j)) 0 64 < 64 = bits_some 64 word small some in
         lane_fails first first_lane (ap (has_bit word) (trailing_lowest 64 word) ∙ not-false (has_bit word (lowest (λ j. not (has_bit word j)) 0 64)) (lowest_at (λ j. not (has_bit word j)) 0 64 (omega arith)))
@@ -66,12 +66,9 @@ module _ (p : ℕ → Bool) (x word : ℕ) (o : Failing p x word) where
           below_upto f first (omega (arith, first_lane)) (λ j k. not-true (has_bit word j) (lowest_below (λ j. not (has_bit word j)) 0 64 j (omega arith) (omega arith)))
 
       -- where the first lane lies past the end, there is no such number
-      pub lowest_past : all < x + first → all ≡ lowest p 0 all
-      lowest_past h = lowest_end p all (x + first) (omega arith) below_first
+      pub lowest_past : all ≤ x + first → all ≡ lowest p 0 all
+      lowest_past h = lowest_end p all (x + first) h below_first
 
-      pub lowest_here : x + first ≤ all → x + first ≡ lowest p 0 all
+      pub lowest_here : x + first < all → x + first ≡ lowest p 0 all
       unfolding Below
-      lowest_here h =
-          by_cases (dec_lt (x + first) all)
-          (λ q. sym (lowest_is p 0 all (x + first) (omega arith) (λ j a b. below_first j b) (omega arith) first_fails))
-          (λ q. let e : x + first ≡ all = omega arith in e ∙ lowest_end p all (x + first) (omega arith) below_first)
+      lowest_here h = sym (lowest_is p 0 all (x + first) (omega arith) (λ j a b. below_first j b) (omega arith) first_fails)

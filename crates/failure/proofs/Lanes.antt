@@ -21,8 +21,10 @@ use Rattle.reach.specs.Masks.{has_bit}
 use Rattle.reach.proofs.Bits.{bit_and_law, bit_not, bit_none}
 use Rattle.lanes.specs.declared.Lanes.{Lanes}
 use Rattle.lanes.specs.Lanes.{Shows, link_lanes, LinksShow, Valued}
+use Rattle.words.specs.declared.Base.{Base}
+use Rattle.words.specs.declared.Base.TheVariants.{Two, Three}
 use Rattle.words.specs.Words.{digit_is, Words}
-use Rattle.failure.specs.Blocks.{Failing, steady_total, steady_number, Unsteady}
+use Rattle.failure.specs.Blocks.{Failing, given, steady_at, Unsteady}
 use Rattle.failure.specs.Failure.{Narrow}
 use Rattle.failure.proofs.Search.{narrow_links}
 
@@ -103,12 +105,17 @@ unsteady_is e cs row trues falses r small f v s j h =
     let (t, g, k) = f v s j h in
     bit_and_law r.trues (2 ^ 64 - 1 - r.kept) j ∙ ap₂ ◌&&◌ t (bit_not 64 r.kept j small h) ∙ lane (eval_of e cs row (v j)) (has_bit r.kept j) ∙ rw k refl
 
--- at 64 total assignments, and at 64 numbers, of a row that is narrow
-module _ (m : ℕ) (cs : List ℕ) (row mask : ℕ) (g : Narrow m cs row mask) (e x : ℕ) (trues falses : List ℕ) (r : ℕ) (u : Unsteady e cs row trues falses r) where
-  pub failing_totals : Words 2 1 (listed (has_bit mask) 0 m) x trues → Words 2 0 (listed (has_bit mask) 0 m) x falses → Failing (steady_total e m cs row) x r
-  unfolding Failing Unsteady
-  failing_totals t f = rw (← narrow_links m cs row mask g) (u (λ j. total (listed (has_bit mask) 0 m) (x + j)) (show_total (has_bit mask) m x g.few_links trues falses t f))
+-- 64 numbers in a base
+module _ (p : ℕ → Bool) (m x : ℕ) (h : m ≤ 64) (trues falses : List ℕ) where
+  pub show_two : Words 2 1 (listed p 0 m) x trues → Words 2 0 (listed p 0 m) x falses → LinksShow trues falses (λ j. given Two (listed p 0 m) (x + j))
+  unfolding given
+  show_two = show_total p m x h trues falses
 
-  pub failing_numbers : Words 3 2 (listed (has_bit mask) 0 m) x trues → Words 3 1 (listed (has_bit mask) 0 m) x falses → Failing (steady_number e m cs row) x r
-  unfolding Failing Unsteady
-  failing_numbers t f = rw (← narrow_links m cs row mask g) (u (λ j. assign (listed (has_bit mask) 0 m) (x + j)) (show_assign (has_bit mask) m x g.few_links trues falses t f))
+  pub show_three : Words 3 2 (listed p 0 m) x trues → Words 3 1 (listed p 0 m) x falses → LinksShow trues falses (λ j. given Three (listed p 0 m) (x + j))
+  unfolding given
+  show_three = show_assign p m x h trues falses
+
+-- of a row that is narrow
+pub failing : (m : ℕ) (cs : List ℕ) (row mask : ℕ) → Narrow m cs row mask → (b : Base) (e x : ℕ) (trues falses : List ℕ) (r : ℕ) → Unsteady e cs row trues falses r → LinksShow trues falses (λ j. given b (listed (has_bit mask) 0 m) (x + j)) → Failing (steady_at b e m cs row) x r
+unfolding Failing Unsteady
+failing m cs row mask g b e x trues falses r u s = rw (← narrow_links m cs row mask g) (u (λ j. given b (listed (has_bit mask) 0 m) (x + j)) s)

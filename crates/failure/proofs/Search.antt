@@ -1,11 +1,13 @@
 -- What is known of a row that is narrow, and its failure from what the searches find. Assumes nothing.
-use Prim.Native.Nat.{ℕ, ◌^◌, ◌<◌, ◌≤◌}
+use Prim.Native.Nat.{ℕ, ◌^◌, ◌≤◌}
 use mathlib.Core.Path.{◌≡◌, refl, sym, ◌∙◌, ap, ap₂}
 use mathlib.Core.Bool.{true, false, not}
 use mathlib.Core.List.{List}
+use Rattle.std.proofs.Common.{Option, Some, None}
+use native.Mathlib.Omega.{arith}
 use native.Mathlib.Nat.{pow-le-pow_right}
 use lib.ListN.{length}
-use borrow.Author.Tests.{not-true, not-false}
+use borrow.Author.Tests.{not-true}
 use Rattle.laws.specs.Lowest.{lowest}
 use Rattle.laws.specs.Listed.{listed}
 use Rattle.calculus.specs.Status.{Links}
@@ -18,8 +20,11 @@ use Rattle.conditions.proofs.Least.{condition_number, condition_link}
 use Rattle.sheet.specs.Table.{condition_row_at, evaluation_of, eval_of}
 use Rattle.reach.specs.Masks.{has_bit}
 use Rattle.reach.proofs.Links.{mask_links, mask_width}
-use Rattle.failure.specs.declared.Failure.TheVariants.{None, At}
-use Rattle.failure.specs.Blocks.{steady_number}
+use Rattle.words.specs.declared.Base.{Base}
+use Rattle.words.specs.declared.Base.TheVariants.{Two, Three}
+use Rattle.words.specs.Words.{base_of}
+use Rattle.failure.specs.Blocks.{numbers}
+use Rattle.failure.specs.declared.Failure.{Failure}
 use Rattle.failure.specs.Failure.{links_at, fails_at, number_at, link_at, failure_of, Narrow}
 
 -- of a row that is narrow
@@ -32,8 +37,10 @@ module _ (m : ℕ) (cs : List ℕ) (row mask : ℕ) (g : Narrow m cs row mask) w
   narrow_width q e = e ∙ ap (λ (x : ℕ). length (listed (has_bit x) 0 64)) g.its_mask ∙ mask_width cs m row g.few_links g.below_m
 
   -- so few numbers are tried
-  pub narrow_power : (b : ℕ) → 0 < b → b ^ length (links_at m cs row) ≤ b ^ 8
-  narrow_power b h = pow-le-pow_right h g.narrow
+  pub narrow_numbers : (b : Base) → numbers b m cs row ≤ 6561
+  unfolding base_of
+  narrow_numbers Two = let h : 2 ^ length (links_at m cs row) ≤ 2 ^ 8 = pow-le-pow_right (omega arith) g.narrow in omega arith
+  narrow_numbers Three = let h : 3 ^ length (links_at m cs row) ≤ 3 ^ 8 = pow-le-pow_right (omega arith) g.narrow in omega arith
 
   pub narrow_few : length (listed (has_bit mask) 0 m) ≤ 8
   narrow_few = rw narrow_links g.narrow
@@ -47,7 +54,7 @@ module _ (m : ℕ) (cs : List ℕ) (row mask : ℕ) (g : Narrow m cs row mask) w
   narrow_unsteady e v q = condition_unsteady (evaluation_of e) m (condition (condition_row_at cs) row) g.below_m v q
 
   -- the number is the smallest at which the condition is not steady
-  pub narrow_number : (e : ℕ) → number_at e m cs row ≡ lowest (steady_number e m cs row) 0 (3 ^ length (links_at m cs row))
+  pub narrow_number : (e : ℕ) → number_at e m cs row ≡ lowest (λ x. steady (eval_of e cs row) (assign (links_at m cs row) x)) 0 (3 ^ length (links_at m cs row))
   unfolding number_at
   narrow_number e = condition_number (evaluation_of e) m (condition (condition_row_at cs) row) g.below_m
 
@@ -57,11 +64,12 @@ module _ (m : ℕ) (cs : List ℕ) (row mask : ℕ) (g : Narrow m cs row mask) w
   narrow_link e h = condition_link (evaluation_of e) m (condition (condition_row_at cs) row) g.below_m h
 
   -- the failure, from what the searches find
-  pub failure_at : (e x l : ℕ) → not (fails_at e m cs row) ≡ false → x ≡ number_at e m cs row → l ≡ lowest (λ l. not (is_false (assign (listed (has_bit mask) 0 m) x l))) 0 m → At x l ≡ failure_of e m cs row
+  pub failure_at : (e x l : ℕ) → fails_at e m cs row ≡ true → x ≡ number_at e m cs row → l ≡ lowest (λ l. not (is_false (assign (listed (has_bit mask) 0 m) x l))) 0 m → Some (record { number = x; link = l }) ≡ failure_of e m cs row
   unfolding failure_of
-  failure_at e x l h p q =
-      let f : fails_at e m cs row ≡ true = not-false (fails_at e m cs row) h in
-      rw f (ap₂ At p (q ∙ rw (narrow_links, p) (sym (narrow_link e f))))
+  failure_at e x l f p q = rw f (ap₂ found p (q ∙ rw (narrow_links, p) (sym (narrow_link e f))))
+    where
+      found : ℕ → ℕ → Option Failure
+      found n k = Some (record { number = n; link = k })
 
 pub failure_none : (e m : ℕ) (cs : List ℕ) (row : ℕ) → not (fails_at e m cs row) ≡ true → None ≡ failure_of e m cs row
 unfolding failure_of

@@ -1,12 +1,11 @@
 -- The failure of a condition row, as document 01 words it, and what is asked of a row whose failure is looked for.
-use Rattle.std.specs.Prelude.{ℕ, ◌+◌, ◌*◌, ◌<◌, ◌≤◌, ◌≡◌, Bool, true, cond, List, length}
+use Rattle.std.specs.Prelude.{ℕ, ◌+◌, ◌*◌, ◌<◌, ◌≤◌, ◌≡◌, Bool, true, cond, List, length, Option, Some, None}
 use Rattle.conditions.specs.Conditions.{condition, reached}
 use Rattle.conditions.specs.Numbers.{links_of, assign}
 use Rattle.conditions.specs.Failure.{offender, number, fails}
 use Rattle.sheet.specs.Table.{condition_row_at, eval_of}
 use Rattle.reach.specs.Masks.{mask_at}
 use Rattle.failure.specs.declared.Failure.{Failure}
-use Rattle.failure.specs.declared.Failure.TheVariants.{None, At}
 
 -- "the links of the condition in rising order"
 abbrev pub links_at : ℕ → List ℕ → ℕ → List ℕ
@@ -22,8 +21,8 @@ module _ (e m : ℕ) (cs : List ℕ) (row : ℕ) where
   unfoldable pub link_at : ℕ
   link_at = offender (eval_of e cs row) m (assign (links_at m cs row) number_at)
 
-  unfoldable pub failure_of : Failure
-  failure_of = cond fails_at (At number_at link_at) None
+  unfoldable pub failure_of : Option Failure
+  failure_of = cond fails_at (Some (record { number = number_at; link = link_at })) None
 
 -- the row is lent, its links are below m, at most 8, and those of the mask
 pub record Narrow (m : ℕ) (cs : List ℕ) (row mask : ℕ) : Type 0 where

@@ -2,92 +2,78 @@
 
 #![tactic(auto)]
 
-ghost use Rattle.std.specs.Prelude.{◌≡◌, not, ◌+◌, ◌*◌, ◌^◌, ◌<◌, ◌≤◌, ◌%◌, length};
+ghost use Rattle.std.specs.Prelude.{◌≡◌, not, ◌+◌, ◌*◌, ◌<◌, ◌≤◌, ◌%◌, length, MatchOption};
 ghost use Rattle.laws.specs.Lowest.{lowest};
 ghost use Rattle.laws.specs.Listed.{listed};
 ghost use Rattle.conditions.specs.Numbers.{assign};
 ghost use Rattle.conditions.specs.Failure.{is_false};
 ghost use Rattle.reach.specs.Masks.{has_bit};
-ghost use Rattle.failure.specs.Blocks.{Failing, steady_total, steady_number, Unsteady};
-ghost use Rattle.failure.specs.Failure.{fails_at, number_at, failure_of, Narrow};
+ghost use Rattle.lanes.specs.Lanes.{LinksShow};
+ghost use Rattle.failure.specs.Blocks.{given, numbers, first_at, Unsteady};
+ghost use Rattle.failure.specs.Failure.{failure_of, Narrow};
 
+use lanes::LinkLanes;
+use words::Base;
+
+// A number at which the condition is true, and a link that is false there and, made unset, leaves it not true.
 #[derive(Clone, Copy)]
-pub enum Failure {
-    None,
-    At { number: usize, link: usize },
-}
-
-fn two_to(q: usize) -> usize
-    requires { q ≤ 8 }
-    ensures { result ≡ 2 ^ q }
-{
-    1 << q
+pub struct Failure {
+    pub number: usize,
+    pub link: usize,
 }
 
 // The lanes at which the condition is true, and not with every false link unset.
-fn unsteady(evaluation: u8, cs: &[u8], row: usize, trues: &[u64; 64], falses: &[u64; 64]) -> u64
+fn unsteady(evaluation: u8, cs: &[u8], row: usize, links: &LinkLanes) -> u64
     requires { (row * 4 + 4 ≤ length cs.now) × (row < 256) }
-    ensures { Unsteady evaluation cs.now row trues.now falses.now result }
+    ensures { Unsteady evaluation cs.now row links.now.trues links.now.falses result }
 {
-    let top = lanes::value(evaluation, cs, row, trues, falses);
+    let top = lanes::value(evaluation, cs, row, links);
     top.trues & !top.kept
 }
 
-// At 64 total assignments.
-fn unsteady_totals(evaluation: u8, m: usize, cs: &[u8], row: usize, mask: u64, x: usize) -> u64
-    requires { (Narrow m cs.now row mask) × ((x % 64 ≡ 0) × (x ≤ 6561)) }
-    ensures { Failing (steady_total evaluation m cs.now row) x result }
+// The link values of 64 numbers.
+#[tactic(auto, unfolding(words::specs::Words::base_of))]
+fn links_of(base: Base, mask: u64, m: usize, x: usize) -> LinkLanes
+    requires { (m ≤ 64) × ((length (listed (has_bit mask) 0 m) ≤ 8) × ((x % 64 ≡ 0) × (x ≤ 6561))) }
+    ensures { LinksShow result.trues result.falses (λ j. given base (listed (has_bit mask) 0 m) (x + j)) }
 {
-    let trues = words::words(false, 1, mask, m, x);
-    let falses = words::words(false, 0, mask, m, x);
-    unsteady(evaluation, cs, row, &trues, &falses)
-}
-
-// At 64 numbers.
-fn unsteady_numbers(evaluation: u8, m: usize, cs: &[u8], row: usize, mask: u64, x: usize) -> u64
-    requires { (Narrow m cs.now row mask) × ((x % 64 ≡ 0) × (x ≤ 6561)) }
-    ensures { Failing (steady_number evaluation m cs.now row) x result }
-{
-    let trues = words::words(true, 2, mask, m, x);
-    let falses = words::words(true, 1, mask, m, x);
-    unsteady(evaluation, cs, row, &trues, &falses)
-}
-
-// The condition passes.
-fn passes(evaluation: u8, m: usize, cs: &[u8], row: usize, mask: u64) -> bool
-    requires { Narrow m cs.now row mask }
-    ensures { result ≡ not (fails_at evaluation m cs.now row) }
-{
-    let all = two_to(reach::width(mask));
-    let mut x = 0;
-    while x < all {
-        if unsteady_totals(evaluation, m, cs, row, mask, x) != 0 {
-            return false;
-        }
-        x += 64;
+    match base {
+        Base::Two => LinkLanes {
+            trues: words::words(Base::Two, 1, mask, m, x),
+            falses: words::words(Base::Two, 0, mask, m, x),
+        },
+        Base::Three => LinkLanes {
+            trues: words::words(Base::Three, 2, mask, m, x),
+            falses: words::words(Base::Three, 1, mask, m, x),
+        },
     }
-    true
 }
 
-// The smallest number at which a link offends.
-fn number(evaluation: u8, m: usize, cs: &[u8], row: usize, mask: u64) -> usize
+// The smallest number in a base at which the condition is not steady.
+fn first_unsteady(
+    base: Base,
+    evaluation: u8,
+    m: usize,
+    cs: &[u8],
+    row: usize,
+    mask: u64,
+) -> Option<usize>
     requires { Narrow m cs.now row mask }
-    ensures { result ≡ number_at evaluation m cs.now row }
+    ensures { MatchOption result (numbers base m cs.now row ≡ first_at base evaluation m cs.now row) (λ x. (x < numbers base m cs.now row) × (x ≡ first_at base evaluation m cs.now row)) }
 {
-    let all = words::three_to(reach::width(mask));
-    let mut x = 0;
-    while x < all {
-        let word = unsteady_numbers(evaluation, m, cs, row, mask, x);
+    let all = base.power(reach::width(mask));
+    for x in (0..all).step_by(64) {
+        let links = links_of(base, mask, m, x);
+        let word = unsteady(evaluation, cs, row, &links);
         if word != 0 {
             let s = x + u64::trailing_zeros(word) as usize;
-            if all < s {
-                return all;
+            if all <= s {
+                return None;
             }
-            return s;
+            return Some(s);
         }
-        x += 64;
     }
-    all
+    None
 }
 
 // The lowest link that is false at a number, over the links of a mask in rising order; m where none is.
@@ -96,30 +82,24 @@ fn false_link(mask: u64, m: usize, x: usize) -> usize
     ensures { result ≡ lowest (λ l. not (is_false (assign (listed (has_bit mask) 0 m) x l))) 0 m }
 {
     let mut rest = x;
-    let mut l = 0;
-    while l < m {
+    for l in 0..m {
         if reach::reached(mask, l) {
             if rest % 3 == 1 {
                 return l;
             }
-            rest = rest / 3;
-            l += 1;
-        } else {
-            l += 1;
+            rest /= 3;
         }
     }
     m
 }
 
-// The failure of a condition row.
-pub fn of_condition(evaluation: u8, m: usize, cs: &[u8], row: usize, mask: u64) -> Failure
+// The failure of a condition row. Whether it passes is decided by the total assignments.
+pub fn of_condition(evaluation: u8, m: usize, cs: &[u8], row: usize, mask: u64) -> Option<Failure>
     requires { Narrow m cs.now row mask }
     ensures { result ≡ failure_of evaluation m cs.now row }
 {
-    if passes(evaluation, m, cs, row, mask) {
-        return Failure::None;
-    }
-    let x = number(evaluation, m, cs, row, mask);
-    let l = false_link(mask, m, x);
-    Failure::At { number: x, link: l }
+    first_unsteady(Base::Two, evaluation, m, cs, row, mask)?;
+    let number = first_unsteady(Base::Three, evaluation, m, cs, row, mask)?;
+    let link = false_link(mask, m, number);
+    Some(Failure { number, link })
 }

@@ -1,6 +1,6 @@
 -- The word operations are the operators, lane by lane. Each operator is one computed test of all values and bits. Assumes nothing.
 use Prim.Native.Nat.{ℕ, ◌<◌}
-use mathlib.Core.Path.{◌≡◌, refl, sym, ◌∙◌, ap, ap₂}
+use mathlib.Core.Path.{◌≡◌, refl, sym, ◌∙◌, ap, ap₂, fun_ext, subst}
 use mathlib.Core.Bool.{Bool, true, false, cond, ◌&&◌}
 use lib.Bits.{bit_and, bit_or}
 use Rattle.laws.specs.Tests.{or}
@@ -8,6 +8,7 @@ use Rattle.laws.proofs.Tests.{same, same_is, and_l, and_r}
 use Rattle.calculus.specs.Status.{Value, Unset, False, True}
 use Rattle.conditions.specs.Operators.{Operator, AND, OR, EQ, NE, table}
 use Rattle.conditions.specs.Conditions.{Evaluation, Strict, Lazy}
+use Rattle.conditions.specs.Meaning.{opposite}
 use Rattle.conditions.specs.ByRows.{strictly, operate}
 use Rattle.conditions.specs.Failure.{is_true, is_false}
 use Rattle.conditions.proofs.Operators.{every₂, every₂_is}
@@ -15,7 +16,11 @@ use Rattle.sheet.specs.Table.{lazy_of, evaluation_of}
 use Rattle.reach.specs.Masks.{has_bit}
 use Rattle.reach.proofs.Bits.{bit_and_law, bit_or_law, bit_none, bit_full}
 use Rattle.lanes.specs.declared.Lanes.{Lanes}
-use Rattle.lanes.specs.Lanes.{Shows, Operated}
+use Rattle.lanes.specs.Lanes.{Shows, turned, Operated}
+
+-- lanes show values that are the same
+pub shows_same : (w : Lanes) (x x' y y' : ℕ → Value) → ((j : ℕ) → x j ≡ y j) → ((j : ℕ) → x' j ≡ y' j) → Shows w x x' → Shows w y y'
+shows_same w x x' y y' h k s = subst (Shows w y) (fun_ext k) (subst (λ (z : ℕ → Value). Shows w z x') (fun_ext h) s)
 
 -- a test of both bits is a proof for every bit
 abbrev both : (Bool → Bool) → Bool
@@ -140,18 +145,10 @@ module _ (e : ℕ) (lazy : evaluation_of e ≡ Lazy) where
   unfolding or table operate
   and_lazy = operated Lazy AND (meet lt rt) (join lf rf) (decided lf rf) refl e lazy
 
-  pub or_lazy : (a b : Lanes) → Operated e OR a b (record { trues = word (join lt rt) a b; falses = word (meet lf rf) a b; kept = word (decided lt rt) a b })
-  unfolding or table operate
-  or_lazy = operated Lazy OR (join lt rt) (meet lf rf) (decided lt rt) refl e lazy
-
 module _ (e : ℕ) (strict : evaluation_of e ≡ Strict) where
   pub and_strict : (a b : Lanes) → Operated e AND a b (record { trues = word (meet lt rt) a b; falses = word (join (meet lf (join rt rf)) (meet lt rf)) a b; kept = word both_kept a b })
   unfolding or table operate strictly
   and_strict = operated Strict AND (meet lt rt) (join (meet lf (join rt rf)) (meet lt rf)) both_kept refl e strict
-
-  pub or_strict : (a b : Lanes) → Operated e OR a b (record { trues = word (join (meet lt (join rt rf)) (meet lf rt)) a b; falses = word (meet lf rf) a b; kept = word both_kept a b })
-  unfolding or table operate strictly
-  or_strict = operated Strict OR (join (meet lt (join rt rf)) (meet lf rt)) (meet lf rf) both_kept refl e strict
 
 -- the lanes where both are set: those where they are the same, and those where not
 abbrev pub equals : Formula
@@ -160,22 +157,58 @@ equals = join (meet lt rt) (meet lf rf)
 abbrev pub differs : Formula
 differs = join (meet lt rf) (meet lf rt)
 
--- EQ and NE are the same under both evaluations
+-- EQ is the same under both evaluations
 eq_either : (E : Evaluation) (e : ℕ) → evaluation_of e ≡ E → (a b : Lanes) → Operated e EQ a b (record { trues = word equals a b; falses = word differs a b; kept = word both_kept a b })
 unfolding or table operate strictly
 eq_either Strict = operated Strict EQ equals differs both_kept refl
 eq_either Lazy = operated Lazy EQ equals differs both_kept refl
 
-ne_either : (E : Evaluation) (e : ℕ) → evaluation_of e ≡ E → (a b : Lanes) → Operated e NE a b (record { trues = word differs a b; falses = word equals a b; kept = word both_kept a b })
-unfolding or table operate strictly
-ne_either Strict = operated Strict NE differs equals both_kept refl
-ne_either Lazy = operated Lazy NE differs equals both_kept refl
-
 pub eq_lanes : (e : ℕ) (a b : Lanes) → Operated e EQ a b (record { trues = word equals a b; falses = word differs a b; kept = word both_kept a b })
 eq_lanes e = eq_either (evaluation_of e) e refl
 
-pub ne_lanes : (e : ℕ) (a b : Lanes) → Operated e NE a b (record { trues = word differs a b; falses = word equals a b; kept = word both_kept a b })
-ne_lanes e = ne_either (evaluation_of e) e refl
+-- true and false exchanged
+shows_turned : (w : Lanes) (x x' : ℕ → Value) → Shows w x x' → Shows (turned w) (λ j. opposite (x j)) (λ j. opposite (x' j))
+unfolding Shows
+shows_turned w x x' s j h = ((s j h).1 ∙ at_true (x j), (s j h).0 ∙ at_false (x j), ap opposite (s j h).2 ∙ at_low (has_bit w.kept j) (x j))
+  where
+    at_true : (u : Value) → is_false u ≡ is_true (opposite u)
+    at_true Unset = refl
+    at_true False = refl
+    at_true True = refl
+
+    at_false : (u : Value) → is_true u ≡ is_false (opposite u)
+    at_false Unset = refl
+    at_false False = refl
+    at_false True = refl
+
+    at_low : (k : Bool) (u : Value) → opposite (cond k u Unset) ≡ cond k (opposite u) Unset
+    at_low true u = refl
+    at_low false u = refl
+
+-- OR is the opposite of AND of the opposites, NE is that of EQ
+or_opposite : (E : Evaluation) (x y : Value) → opposite (operate E AND (opposite x) (opposite y)) ≡ operate E OR x y
+unfolding table operate strictly
+or_opposite Strict x y = alike_is _ _ (every₂_is (λ x y. alike (opposite (operate Strict AND (opposite x) (opposite y))) (operate Strict OR x y)) refl x y)
+or_opposite Lazy x y = alike_is _ _ (every₂_is (λ x y. alike (opposite (operate Lazy AND (opposite x) (opposite y))) (operate Lazy OR x y)) refl x y)
+
+ne_opposite : (E : Evaluation) (x y : Value) → opposite (operate E EQ x y) ≡ operate E NE x y
+unfolding table operate strictly
+ne_opposite Strict x y = alike_is _ _ (every₂_is (λ x y. alike (opposite (operate Strict EQ x y)) (operate Strict NE x y)) refl x y)
+ne_opposite Lazy x y = alike_is _ _ (every₂_is (λ x y. alike (opposite (operate Lazy EQ x y)) (operate Lazy NE x y)) refl x y)
+
+module _ (e : ℕ) (a b r : Lanes) where
+  pub or_lanes : Operated e AND (turned a) (turned b) r → Operated e OR a b (turned r)
+  unfolding Operated
+  or_lanes s x y x' y' p q =
+      let E = evaluation_of e in
+      let w = s (λ j. opposite (x j)) (λ j. opposite (y j)) (λ j. opposite (x' j)) (λ j. opposite (y' j)) (shows_turned a x x' p) (shows_turned b y y' q) in
+      shows_same _ _ _ _ _ (λ j. or_opposite E (x j) (y j)) (λ j. or_opposite E (x' j) (y' j)) (shows_turned r _ _ w)
+
+  pub ne_lanes : Operated e EQ a b r → Operated e NE a b (turned r)
+  unfolding Operated
+  ne_lanes s x y x' y' p q =
+      let E = evaluation_of e in
+      shows_same _ _ _ _ _ (λ j. ne_opposite E (x j) (y j)) (λ j. ne_opposite E (x' j) (y' j)) (shows_turned r _ _ (s x y x' y' p q))
 
 -- constants
 pub true_lanes : Shows (record { trues = 18446744073709551615; falses = 0; kept = 18446744073709551615 }) (λ j. True) (λ j. True)

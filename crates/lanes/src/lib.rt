@@ -2,11 +2,13 @@
 
 #![tactic(auto)]
 
-ghost use Rattle.std.specs.Prelude.{◌≡◌, ◌+◌, ◌*◌, ◌<◌, ◌≤◌, length};
-ghost use Rattle.calculus.specs.Status.{truth};
-ghost use Rattle.conditions.specs.Operators.{AND, OR, EQ, NE};
-ghost use Rattle.sheet.specs.Table.{condition_row_by, condition_row_at};
-ghost use Rattle.lanes.specs.Lanes.{Shows, lanes_at, link_lanes, Operated, Stepped, Valued};
+ghost use Rattle.std.specs.Prelude.{◌≡◌, ℕ, ◌+◌, ◌*◌, ◌<◌, ◌≤◌, length};
+ghost use Rattle.conditions.specs.Operators.{AND, EQ};
+ghost use Rattle.sheet.specs.Table.{condition_row_at};
+ghost use Rattle.rows.specs.Conditions.{operator_of};
+ghost use Rattle.lanes.specs.Lanes.{turned, link_lanes, Operated, Stepped, Valued};
+
+use rows::condition::{ConditionRow, Operator, condition_row};
 
 // The lanes that are true, those that are false, and those that keep their value with every false link unset. A lane that does not keep it is then unset.
 #[derive(Clone, Copy)]
@@ -18,20 +20,59 @@ pub struct Lanes {
 
 const ALL: u64 = 18446744073709551615;
 
-fn constant(b: bool) -> Lanes
-    ensures { Shows result (λ j. truth b) (λ j. truth b) }
-{
-    if b {
-        return Lanes {
-            trues: ALL,
-            falses: 0,
-            kept: ALL,
-        };
+const FALSE: Lanes = Lanes {
+    trues: 0,
+    falses: ALL,
+    kept: ALL,
+};
+
+const TRUE: Lanes = Lanes {
+    trues: ALL,
+    falses: 0,
+    kept: ALL,
+};
+
+const UNSET: Lanes = Lanes {
+    trues: 0,
+    falses: 0,
+    kept: 0,
+};
+
+// For each link the lanes at which it is true, and those at which it is false.
+#[derive(Clone, Copy)]
+pub struct LinkLanes {
+    pub trues: [u64; 64],
+    pub falses: [u64; 64],
+}
+
+impl Lanes {
+    // True and false exchanged.
+    fn opposite(self) -> Lanes
+        ensures { result ≡ turned self }
+    {
+        Lanes {
+            trues: self.falses,
+            falses: self.trues,
+            kept: self.kept,
+        }
     }
-    Lanes {
-        trues: 0,
-        falses: ALL,
-        kept: ALL,
+}
+
+impl LinkLanes {
+    // What is kept of a link is what is true; a link from 64 on is unset.
+    #[tactic(auto, unfolding(crate::specs::Lanes::link_lanes))]
+    fn link(&self, l: u8) -> Lanes
+        ensures { result ≡ link_lanes self.now.trues self.now.falses l }
+    {
+        if 64 <= l {
+            return UNSET;
+        }
+        let t = self.trues[l as usize];
+        Lanes {
+            trues: t,
+            falses: self.falses[l as usize],
+            kept: t,
+        }
     }
 }
 
@@ -53,25 +94,9 @@ fn and(evaluation: u8, a: Lanes, b: Lanes) -> Lanes
     }
 }
 
-fn or(evaluation: u8, a: Lanes, b: Lanes) -> Lanes
-    ensures { Operated evaluation OR a b result }
-{
-    if evaluate::is_lazy(evaluation) {
-        return Lanes {
-            trues: a.trues | b.trues,
-            falses: a.falses & b.falses,
-            kept: (a.kept & (b.kept | a.trues)) | (b.kept & b.trues),
-        };
-    }
-    Lanes {
-        trues: (a.trues & (b.trues | b.falses)) | (a.falses & b.trues),
-        falses: a.falses & b.falses,
-        kept: a.kept & b.kept,
-    }
-}
-
-fn equal(evaluation: u8, a: Lanes, b: Lanes) -> Lanes
-    ensures { Operated evaluation EQ a b result }
+// Under both evaluations.
+fn equal(a: Lanes, b: Lanes) -> Lanes
+    ensures { (e : ℕ) → Operated e EQ a b result }
 {
     Lanes {
         trues: (a.trues & b.trues) | (a.falses & b.falses),
@@ -80,115 +105,41 @@ fn equal(evaluation: u8, a: Lanes, b: Lanes) -> Lanes
     }
 }
 
-fn differ(evaluation: u8, a: Lanes, b: Lanes) -> Lanes
-    ensures { Operated evaluation NE a b result }
+// OR is the opposite of AND of the opposites, NE that of EQ.
+fn operate(evaluation: u8, o: Operator, a: Lanes, b: Lanes) -> Lanes
+    ensures { Operated evaluation (operator_of o) a b result }
 {
-    Lanes {
-        trues: (a.trues & b.falses) | (a.falses & b.trues),
-        falses: (a.trues & b.trues) | (a.falses & b.falses),
-        kept: a.kept & b.kept,
+    match o {
+        Operator::And => and(evaluation, a, b),
+        Operator::Or => and(evaluation, a.opposite(), b.opposite()).opposite(),
+        Operator::Eq => equal(a, b),
+        Operator::Ne => equal(a, b).opposite(),
     }
 }
 
-// What is kept of a link is what is true.
-fn of_link(lt: &[u64; 64], lf: &[u64; 64], l: u8) -> Lanes
-    ensures { result ≡ link_lanes lt.now lf.now l }
-{
-    if 64 <= l {
-        return Lanes {
-            trues: 0,
-            falses: 0,
-            kept: 0,
-        };
-    }
-    let t = lt[l as usize];
-    Lanes {
-        trues: t,
-        falses: lf[l as usize],
-        kept: t,
-    }
-}
-
-fn of_row(trues: &[u64; 256], falses: &[u64; 256], kept: &[u64; 256], row: u8) -> Lanes
-    ensures { result ≡ lanes_at trues.now falses.now kept.now row }
-{
-    Lanes {
-        trues: trues[row as usize],
-        falses: falses[row as usize],
-        kept: kept[row as usize],
-    }
-}
-
-// A row from its bytes.
-fn row_by(
-    evaluation: u8,
-    kind: u8,
-    a: u8,
-    b: u8,
-    lt: &[u64; 64],
-    lf: &[u64; 64],
-    trues: &[u64; 256],
-    falses: &[u64; 256],
-    kept: &[u64; 256],
-) -> Lanes
-    ensures { Stepped evaluation (condition_row_by kind a b) lt.now lf.now trues.now falses.now kept.now result }
-{
-    let x = of_row(trues, falses, kept, a);
-    let y = of_row(trues, falses, kept, b);
-    match kind {
-        0 => constant(false),
-        1 => constant(true),
-        2 => of_link(lt, lf, a),
-        3 => and(evaluation, x, y),
-        4 => or(evaluation, x, y),
-        5 => equal(evaluation, x, y),
-        6 => differ(evaluation, x, y),
-        _ => constant(false),
-    }
-}
-
-fn step(
-    evaluation: u8,
-    cs: &[u8],
-    row: usize,
-    lt: &[u64; 64],
-    lf: &[u64; 64],
-    trues: &[u64; 256],
-    falses: &[u64; 256],
-    kept: &[u64; 256],
-) -> Lanes
+// The value of a row in each lane, from those of other rows.
+fn step(evaluation: u8, cs: &[u8], row: usize, links: &LinkLanes, table: &[Lanes; 256]) -> Lanes
     requires { row * 4 + 4 ≤ length cs.now }
-    ensures { Stepped evaluation (condition_row_at cs.now row) lt.now lf.now trues.now falses.now kept.now result }
+    ensures { Stepped evaluation (condition_row_at cs.now row) links.now.trues links.now.falses table.now result }
 {
-    let at = row * 4;
-    row_by(
-        evaluation,
-        cs[at],
-        cs[at + 1],
-        cs[at + 2],
-        lt,
-        lf,
-        trues,
-        falses,
-        kept,
-    )
+    match condition_row(cs, row) {
+        ConditionRow::False => FALSE,
+        ConditionRow::True => TRUE,
+        ConditionRow::Link(l) => links.link(l),
+        ConditionRow::Operation(o, a, b) => {
+            operate(evaluation, o, table[a as usize], table[b as usize])
+        }
+    }
 }
 
 // The value of a row in each lane. A row that is not there yet is false.
-pub fn value(evaluation: u8, cs: &[u8], row: usize, lt: &[u64; 64], lf: &[u64; 64]) -> Lanes
+pub fn value(evaluation: u8, cs: &[u8], row: usize, links: &LinkLanes) -> Lanes
     requires { (row * 4 + 4 ≤ length cs.now) × (row < 256) }
-    ensures { Valued evaluation cs.now row lt.now lf.now result }
+    ensures { Valued evaluation cs.now row links.now.trues links.now.falses result }
 {
-    let mut trues = [0; 256];
-    let mut falses = [ALL; 256];
-    let mut kept = [ALL; 256];
-    let mut i = 0;
-    while i < row {
-        let x = step(evaluation, cs, i, lt, lf, &trues, &falses, &kept);
-        trues[i] = x.trues;
-        falses[i] = x.falses;
-        kept[i] = x.kept;
-        i += 1;
+    let mut table = [FALSE; 256];
+    for i in 0..row {
+        table[i] = step(evaluation, cs, i, links, &table);
     }
-    step(evaluation, cs, row, lt, lf, &trues, &falses, &kept)
+    step(evaluation, cs, row, links, &table)
 }

@@ -5,7 +5,7 @@ use mathlib.Core.Bool.{true, not}
 use mathlib.Core.Logic.{by_cases, ◌↔◌}
 use native.Mathlib.Omega.{arith}
 use native.Mathlib.Decide.{dec_lt, ℕ_discrete}
-use borrow.Author.Tests.{lt-ltb, not-true, not-false}
+use borrow.Author.Tests.{lt-ltb, ne_eqb, not-true, not-false}
 use Rattle.laws.proofs.Lowest.{lowest_below, lowest_at, lowest_none}
 use Rattle.laws.proofs.Tests.{and_l, and_r, refuted}
 use Rattle.calculus.specs.Process.{join}
@@ -14,15 +14,15 @@ use Rattle.conditions.specs.Conditions.{condition}
 use Rattle.conditions.specs.Numbers.{Offends}
 use Rattle.conditions.proofs.Failure.{fails_offends, number_smallest, link_lowest, condition_fails, condition_holds}
 use Rattle.conditions.proofs.Numbers.{links_inside}
-use Rattle.steps.specs.Rows.{PREFIX, is_join_prefix, is_join, condition_of_prefix, condition_of}
+use Rattle.steps.specs.Rows.{PREFIX, is_join, condition_of}
 use Rattle.steps.specs.Verdict.{SheetPasses}
 use Rattle.steps.proofs.Rows.{join_of}
 use Rattle.sheet.specs.Table.{Table, row_at, condition_row_at, evaluation_of, eval_in}
-use Rattle.sheet.proofs.Rows.{join_row}
+use Rattle.sheet.proofs.Rows.{row_join, join_row}
 use Rattle.failure.specs.Failure.{links_at, fails_at, number_at, link_at}
 use Rattle.verdict.specs.declared.Verdict.TheVariants.{Pass, Fail}
 use Rattle.verdict.specs.Verdict.{fails_in, sound, failing, fail_at, verdict_of, Judged}
-use Rattle.verdict.proofs.Joins.{kind_at, second_at, sound_other, verdict_fail, verdict_pass}
+use Rattle.verdict.proofs.Joins.{kind_at, second_at, sound_other, sound_join, verdict_fail, verdict_pass}
 
 -- NUMBER AND LINK of a condition row that fails offend; no smaller number does, and at it no lower link
 module _ (t : Table) (row : ℕ) where
@@ -39,14 +39,9 @@ module _ (t : Table) (row : ℕ) where
   none_lower = link_lowest (eval_in t row) t.m (links_at t.m t.conditions row) (links_inside t.m (condition (condition_row_at t.conditions) row)) (number_at t.evaluation t.m t.conditions row)
 
 module _ (t : Table) (g : Judged t) where
-  -- a JOIN row is sound exactly if its condition does not fail
-  sound_row : (j q d : ℕ) → row_at t.terms j ≡ PREFIX (join q) d → sound t j ≡ not (fails_in t q)
-  unfolding sound is_join is_join_prefix condition_of condition_of_prefix
-  sound_row j q d e = rw e refl
-
   meets : (j q d : ℕ) → j < t.n → row_at t.terms j ≡ PREFIX (join q) d → sound t j ≡ true → Condition2 (eval_in t q)
   unfolding fails_at
-  meets j q d h e s = condition_holds (evaluation_of t.evaluation) t.m (condition (condition_row_at t.conditions) q) (λ l r. g.link_below_m q l (g.join_below_k j q d h e) r) (not-true _ (sym (sound_row j q d e) ∙ s))
+  meets j q d h e s = condition_holds (evaluation_of t.evaluation) t.m (condition (condition_row_at t.conditions) q) (λ l r. g.link_below_m q l (g.join_below_k j q d h e) r) (not-true _ (sym (sound_join t j q d e) ∙ s))
 
   none_fails : verdict_of t ≡ Pass → t.n ≤ failing t
   unfolding verdict_of fail_at
@@ -67,8 +62,8 @@ module _ (t : Table) (g : Judged t) where
       (λ k.
       let q : ℕ = second_at t.terms j in
       let e = join_row t.terms j k in
-      sound_row j q _ e ∙ ap not (refuted (fails_in t q) (λ f. (condition_fails (evaluation_of t.evaluation) t.m (condition (condition_row_at t.conditions) q) (λ l r. g.link_below_m q l (g.join_below_k j q _ h e) r)).0 f (s j q _ h e))))
-      (λ k. sym (sound_other t j k))
+      sound_join t j q _ e ∙ ap not (refuted (fails_in t q) (λ f. (condition_fails (evaluation_of t.evaluation) t.m (condition (condition_row_at t.conditions) q) (λ l r. g.link_below_m q l (g.join_below_k j q _ h e) r)).0 f (s j q _ h e))))
+      (λ k. sound_other t j (row_join t.terms j ∙ ne_eqb _ 3 k))
 
   -- THE VERDICT IS PASS exactly if the condition of every JOIN row meets R's condition (2), under either evaluation.
   pub pass_exactly : (verdict_of t ≡ Pass) ↔ SheetPasses (eval_in t) (row_at t.terms) t.n

@@ -2,7 +2,6 @@
 use Prim.Native.Nat.{ℕ, zero, suc, ◌+◌, ◌-◌, ◌^◌, ◌<◌, ◌≤◌, ◌/◌, ◌%◌}
 use mathlib.Core.Path.{◌≡◌, refl, sym, ◌∙◌, ap, ap₂}
 use mathlib.Core.Bool.{Bool, true, false, not}
-use mathlib.Core.List.{List, [], ◌∷◌}
 use mathlib.Core.Logic.{by_cases}
 use native.Mathlib.Omega.{arith}
 use native.Mathlib.Decide.{ℕ_discrete}
@@ -17,25 +16,8 @@ use Rattle.laws.proofs.Lowest.{lowest_below}
 use Rattle.laws.proofs.Tests.{same, same_is, self, or_r, or_none}
 use Rattle.reach.specs.Masks.{has_bit}
 use Rattle.reach.proofs.Bits.{bit_full, bit_none, bit_not, bit_or_law, bit_power}
+use Rattle.words.specs.declared.TheConstants.{PATTERNS}
 use Rattle.words.specs.Words.{DigitWord}
-
-abbrev pub powers : List ℕ
-powers = 1 ∷ 3 ∷ 9 ∷ 27 ∷ 81 ∷ 243 ∷ 729 ∷ 2187 ∷ 6561 ∷ []
-
-pub power_at : (q : ℕ) → q ≤ 8 → get_or powers q 0 ≡ 3 ^ q
-power_at zero h = refl
-power_at (suc zero) h = refl
-power_at (suc (suc zero)) h = refl
-power_at (suc (suc (suc zero))) h = refl
-power_at (suc (suc (suc (suc zero)))) h = refl
-power_at (suc (suc (suc (suc (suc zero))))) h = refl
-power_at (suc (suc (suc (suc (suc (suc zero)))))) h = refl
-power_at (suc (suc (suc (suc (suc (suc (suc zero))))))) h = refl
-power_at (suc (suc (suc (suc (suc (suc (suc (suc zero)))))))) h = refl
-power_at (suc (suc (suc (suc (suc (suc (suc (suc (suc q))))))))) h = absurd (omega arith)
-
-abbrev pub patterns : List ℕ
-patterns = 12297829382473034410 ∷ 14757395258967641292 ∷ 17361641481138401520 ∷ 18374966859414961920 ∷ 18446462603027742720 ∷ 18446744069414584320 ∷ []
 
 -- all lanes of a word, tested at once
 abbrev lanes : ℕ → ℕ → ℕ
@@ -44,7 +26,7 @@ lanes word i = lowest (λ j. same (has_bit word j) (eqb (j / 2 ^ i % 2) 1)) 0 64
 lane_of : (word i : ℕ) → lanes word i ≡ 64 → (j : ℕ) → j < 64 → has_bit word j ≡ eqb (j / 2 ^ i % 2) 1
 lane_of word i e j h = same_is _ _ (lowest_below (λ j. same (has_bit word j) (eqb (j / 2 ^ i % 2) 1)) 0 64 j (omega arith) (omega arith))
 
-pub pattern_low : (i : ℕ) → i < 6 → (x : ℕ) → x % 64 ≡ 0 → DigitWord 2 1 i x (get_or patterns i 0)
+pub pattern_low : (i : ℕ) → i < 6 → (x : ℕ) → x % 64 ≡ 0 → DigitWord 2 1 i x (get_or PATTERNS i 0)
 unfolding DigitWord has_bit lowest
 pattern_low zero h x e j k = lane_of 12297829382473034410 0 refl j k ∙ ap (λ (d : ℕ). eqb d 1) (let z : j / 1 % 2 ≡ (x + j) / 1 % 2 = omega arith in z)
 pattern_low (suc zero) h x e j k = lane_of 14757395258967641292 1 refl j k ∙ ap (λ (d : ℕ). eqb d 1) (let z : j / 2 % 2 ≡ (x + j) / 2 % 2 = omega arith in z)

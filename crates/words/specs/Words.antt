@@ -1,11 +1,13 @@
 -- The digits of 64 numbers at once: lane j is the number x + j.
-use Rattle.std.specs.Prelude.{ℕ, ◌+◌, ◌^◌, ◌<◌, ◌/◌, ◌%◌, ◌≡◌, Bool, true, false, cond, List, [], ◌∷◌, eqb, get_or}
+use Rattle.std.specs.Prelude.{ℕ, ◌+◌, ◌^◌, ◌<◌, ◌/◌, ◌%◌, ◌≡◌, Bool, false, cond, List, [], ◌∷◌, eqb, get_or}
 use Rattle.reach.specs.Masks.{has_bit}
+use Rattle.words.specs.declared.Base.{Base}
+use Rattle.words.specs.declared.Base.TheVariants.{Two, Three}
 
 -- 3 for link values that may be unset, 2 for total ones
-unfoldable pub base_of : Bool → ℕ
-base_of true = 3
-base_of false = 2
+unfoldable pub base_of : Base → ℕ
+base_of Two = 2
+base_of Three = 3
 
 -- the lanes at which digit i is d
 unfoldable pub DigitWord : ℕ → ℕ → ℕ → ℕ → ℕ → Type 0

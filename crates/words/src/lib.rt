@@ -17,21 +17,26 @@ const PATTERNS: [u64; 6] = [
     18446744069414584320,
 ];
 
-// The powers of 3.
-const POWERS: [usize; 9] = [1, 3, 9, 27, 81, 243, 729, 2187, 6561];
-
-pub fn three_to(q: usize) -> usize
-    requires { q ≤ 8 }
-    ensures { result ≡ 3 ^ q }
-{
-    POWERS[q]
+// Of the numbers whose digits are link values: 2 for total ones, 3 for those that may be unset.
+#[derive(Clone, Copy)]
+pub enum Base {
+    Two,
+    Three,
 }
 
-fn one(j: usize) -> u64
-    requires { j < 64 }
-    ensures { result ≡ 2 ^ j }
-{
-    1 << j
+impl Base {
+    // The base to the q.
+    #[tactic(auto, unfolding(crate::specs::Words::base_of))]
+    pub fn power(self, q: usize) -> usize
+        requires { q ≤ 8 }
+        ensures { result ≡ base_of self ^ q }
+    {
+        let base: usize = match self {
+            Base::Two => 2,
+            Base::Three => 3,
+        };
+        base.pow(q as u32)
+    }
 }
 
 // The lanes at which bit i is 1: below bit 6 the lane alone decides, from there on the number.
@@ -42,66 +47,54 @@ fn pattern(i: usize, x: usize) -> u64
     if i < 6 {
         return PATTERNS[i];
     }
-    if (x >> i) % 2 == 1 {
-        return 18446744073709551615;
-    }
-    0
+    if (x >> i) % 2 == 1 { u64::MAX } else { 0 }
 }
 
+// One load in place of the 64 divisions of a ternary word.
 fn binary(d: usize, i: usize, x: usize) -> u64
     requires { (d < 2) × ((i < 8) × (x % 64 ≡ 0)) }
     ensures { DigitWord 2 d i x result }
 {
     let ones = pattern(i, x);
-    if d == 1 {
-        return ones;
-    }
-    !ones
+    if d == 1 { ones } else { !ones }
 }
 
 fn ternary(d: usize, i: usize, x: usize) -> u64
     requires { (i < 8) × (x ≤ 6561) }
     ensures { DigitWord 3 d i x result }
 {
-    let power = three_to(i);
+    let power = Base::Three.power(i);
     let mut word = 0;
-    let mut j = 0;
-    while j < 64 {
+    for j in 0..64 {
         if ((x + j) / power) % 3 == d {
-            word = word | one(j);
-            j += 1;
-        } else {
-            j += 1;
+            word |= 1 << j;
         }
     }
     word
 }
 
-fn digit_word(thirds: bool, d: usize, i: usize, x: usize) -> u64
-    requires { (d < base_of thirds) × ((i < 8) × ((x % 64 ≡ 0) × (x ≤ 6561))) }
-    ensures { DigitWord (base_of thirds) d i x result }
+#[tactic(auto, unfolding(crate::specs::Words::base_of))]
+fn digit_word(base: Base, d: usize, i: usize, x: usize) -> u64
+    requires { (d < base_of base) × ((i < 8) × ((x % 64 ≡ 0) × (x ≤ 6561))) }
+    ensures { DigitWord (base_of base) d i x result }
 {
-    if thirds {
-        return ternary(d, i, x);
+    match base {
+        Base::Two => binary(d, i, x),
+        Base::Three => ternary(d, i, x),
     }
-    binary(d, i, x)
 }
 
 // A word for each link of a mask, in rising order of the links.
-pub fn words(thirds: bool, d: usize, mask: u64, m: usize, x: usize) -> [u64; 64]
-    requires { (d < base_of thirds) × ((m ≤ 64) × ((length (listed (has_bit mask) 0 m) ≤ 8) × ((x % 64 ≡ 0) × (x ≤ 6561)))) }
-    ensures { Words (base_of thirds) d (listed (has_bit mask) 0 m) x result }
+pub fn words(base: Base, d: usize, mask: u64, m: usize, x: usize) -> [u64; 64]
+    requires { (d < base_of base) × ((m ≤ 64) × ((length (listed (has_bit mask) 0 m) ≤ 8) × ((x % 64 ≡ 0) × (x ≤ 6561)))) }
+    ensures { Words (base_of base) d (listed (has_bit mask) 0 m) x result }
 {
     let mut table = [0; 64];
     let mut i = 0;
-    let mut l = 0;
-    while l < m {
+    for l in 0..m {
         if reach::reached(mask, l) {
-            table[l] = digit_word(thirds, d, i, x);
+            table[l] = digit_word(base, d, i, x);
             i += 1;
-            l += 1;
-        } else {
-            l += 1;
         }
     }
     table

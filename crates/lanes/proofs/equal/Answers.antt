@@ -2,4 +2,4 @@ use Rattle.lanes.proofs.Operators.{eq_lanes}
 use Rattle.lanes.proofs.equal.Goals as goal
 
 pub returns : goal.returns
-returns c = eq_lanes _ _ _
+returns c = λ e. eq_lanes e _ _

@@ -1,0 +1,15 @@
+use Prim.Native.Nat.{◌-◌, ◌%◌}
+use mathlib.Core.Path.{◌≡◌}
+use Rattle.failure.specs.Blocks.{numbers, steady_at}
+use Rattle.failure.proofs.Blocks.{Below}
+use Rattle.failure.proofs.first_unsteady.Given as goal
+
+abbrev pub invariant-loop-x : goal.invariant-loop-x
+invariant-loop-x l = record {
+  size : l.all ≡ numbers l.base l.m l.cs l.row;
+  aligned : l.x % 64 ≡ 0;
+  steady : Below (steady_at l.base l.evaluation l.m l.cs l.row) l.x;
+}
+
+abbrev pub decreases-loop-x : goal.decreases-loop-x
+decreases-loop-x l = l.all - l.x

@@ -1,9 +1,0 @@
-use mathlib.Core.Path.{◌∙◌}
-use Prim.Native.Nat.{◌^◌}
-use native.Mathlib.Nat.{one-mul}
-use lib.Pow.{shl_exact}
-use native.Mathlib.Omega.{arith}
-use Rattle.failure.proofs.two_to.Goals as goal
-
-pub returns : goal.returns
-returns c = shl_exact 1 c.args.q 64 (omega arith) (omega arith) ∙ one-mul (2 ^ c.args.q)
