@@ -11,21 +11,22 @@ use lib.Dec.{eqb}
 use lib.ListN.{get_or}
 use borrow.Author.Tests.{eq-eqb, ne_eqb, lt-ltb, le-ltb}
 use Rattle.laws.proofs.Tests.{and_false, not_both}
-use Rattle.calculus.specs.Process.{pick}
-use Rattle.calculus.specs.Places.{own, sets, plain, cleaning, falsifies}
-use Rattle.conditions.specs.Numbers.{digit}
+use Rattle.calculus.specs.Process.{out}
+use Rattle.calculus.specs.Places.{Mode, own, sets, plain, cleaning, falsifies, cleans}
 use Rattle.steps.specs.Rows.{Row, NIL, PREFIX, BRANCH, first_of, second_of, is_source, Kids, Tree}
-use Rattle.steps.specs.Marks.{Marks, open_branches}
-use Rattle.steps.specs.InFront.{names, parent_of, right_of, waiting_step, undecided}
+use Rattle.steps.specs.Marks.{Marks, stand}
+use Rattle.steps.specs.InFront.{names, parent_of, right_of, waits_by, waiting_step}
 use Rattle.steps.proofs.Tree.{child_above}
 use Rattle.steps.proofs.Parents.{child_number, number_child, child_names, names_child, parent_is}
-use Rattle.sheet.specs.Table.{row_by, row_at}
-use Rattle.sheet.proofs.Rows.{row_by_kind, row_no_source}
+use Rattle.sheet.specs.Table.{row_at}
+use Rattle.rows.specs.declared.term.TermRow.{TermRow}
+use Rattle.rows.specs.declared.term.TermRow.TheVariants.{Nil, Act, Out, Join, Pick, Flow}
+use Rattle.rows.specs.Term.{row_of}
 use Rattle.reach.specs.Masks.{has_bit, link_bit}
 use Rattle.reach.proofs.Bits.{bit_power, bit_none}
 use Rattle.state.specs.declared.State.{State}
 use Rattle.state.specs.State.{decide_of, set_of}
-use Rattle.moves.specs.Steps.{mode_of, marks_of, remainder_in, falsify_from, falsified, is_waiting_pick, decided_of, climbed, own_link, own_of}
+use Rattle.moves.specs.Steps.{mode_of, marks_of, remainder_in, falsify_from, falsified, is_waiting_pick, decided_of, climbed}
 use Rattle.moves.proofs.Climb.{climbed_up, climbed_top}
 use Rattle.effects.specs.Gather.{Gathers, own_sets, sets_at, OwnBelow}
 use Rattle.effects.proofs.Gathering.{gathers_none}
@@ -93,27 +94,22 @@ pick_branches i n m NIL k e = absurd (true≢false (sym e))
 pick_branches i n m (PREFIX π c) k e = absurd (true≢false (sym e))
 pick_branches i n m (BRANCH κ p q) k e = (k.0.1, k.1.1)
 
-pub waiting_pick_other : (kind a b c m : ℕ) → eqb kind 4 ≡ false → is_waiting_pick (row_by kind a b c) m ≡ false
-unfolding is_waiting_pick
-waiting_pick_other kind a b c m f = row_by_kind (λ (N : Row). is_waiting_pick N m ≡ false) kind a b c refl (λ _. refl) (λ _. refl) (λ _. refl) (λ e. absurd (not_both e f)) (λ _. refl)
-
-pub waiting_pick : (kind a b c m : ℕ) → kind ≡ 4 → undecided (open_branches pick m) ≡ is_waiting_pick (row_by kind a b c) m
-unfolding row_by is_waiting_pick
-waiting_pick kind a b c m e = rw e refl
-
--- a row that is no OUT has no link of its own
-pub own_other : (kind a b c : ℕ) (z : State) → eqb kind 2 ≡ false → own_of (row_by kind a b c) z ≡ z
-unfolding own_of own_link
-own_other kind a b c z f = row_by_kind (λ (N : Row). own_of N z ≡ z) kind a b c refl (λ _. refl) (λ e. absurd (not_both e f)) (λ _. refl) (λ _. refl) (λ _. refl)
-
 -- the word of a row's own link
 pub gathers_waits : (N : Row) (m : ℕ) → waiting_step N m ≡ false → Gathers 0 (own_sets N m)
 unfolding own_sets
 gathers_waits N m e = gathers_none (own_sets N m) (λ l. rw e refl)
 
-pub gathers_other : (kind a b c m : ℕ) → eqb kind 2 ≡ false → Gathers 0 (own_sets (row_by kind a b c) m)
-unfolding own_sets
-gathers_other kind a b c m e = gathers_none (own_sets (row_by kind a b c) m) (λ l. ap (λ (x : Bool). waiting_step (row_by kind a b c) m && x) (row_no_source kind a b c l e) ∙ and_false (waiting_step (row_by kind a b c) m))
+pub gathers_other : (N : TermRow) (m : ℕ) → ((l : ℕ) (v : Bool) (d : ℕ) → N ≡ Out l v d → ⊥) → Gathers 0 (own_sets (row_of N) m)
+unfolding own_sets is_source own
+gathers_other N m other = gathers_none (own_sets (row_of N) m) (λ l. ap (λ (x : Bool). waiting_step (row_of N) m && x) (no_source N other l) ∙ and_false (waiting_step (row_of N) m))
+  where
+    no_source : (N : TermRow) → ((l : ℕ) (v : Bool) (d : ℕ) → N ≡ Out l v d → ⊥) → (l : ℕ) → is_source (row_of N) l ≡ false
+    no_source Nil other l = refl
+    no_source (Act a d) other l = refl
+    no_source (Out k v d) other l = absurd (other k v d refl)
+    no_source (Join q d) other l = refl
+    no_source (Pick p q) other l = refl
+    no_source (Flow p q) other l = refl
 
 link_bit_law : (a l : ℕ) → l < 64 → has_bit (link_bit a) l ≡ eqb l a
 unfolding link_bit
@@ -122,25 +118,13 @@ link_bit_law a l h =
     (λ (k : a < 64). rw (lt-ltb a 64 k) (bit_power a l))
     (λ (k : a < 64 → ⊥). rw (le-ltb a 64 (omega arith)) (bit_none l ∙ sym (ne_eqb l a (λ e. omega arith))))
 
-source_out : (kind a b c l : ℕ) → kind ≡ 2 → is_source (row_by kind a b c) l ≡ eqb l a
-unfolding row_by is_source own
-source_out kind a b c l e = rw e refl
+pub gathers_out : (N : Row) (a : ℕ) (v : Bool) (c m x : ℕ) → N ≡ PREFIX (out a v) c → waits_by (stand m) ≡ true → x ≡ link_bit a → Gathers x (own_sets N m)
+unfolding own_sets waiting_step is_source own
+gathers_out N a v c m x e f g l h = rw (e, f, g) (link_bit_law a l h)
 
-pub gathers_out : (kind a b c m x : ℕ) → kind ≡ 2 → waiting_step (row_by kind a b c) m ≡ true → x ≡ link_bit a → Gathers x (own_sets (row_by kind a b c) m)
-unfolding own_sets
-gathers_out kind a b c m x e f g l h = rw (f, g) (link_bit_law a l h ∙ sym (source_out kind a b c l e))
-
-pub own_below : (kind a b c x : ℕ) → kind ≡ 2 → OwnBelow (row_by kind a b c) → x ≡ a → x < 64
-unfolding OwnBelow
-own_below kind a b c x e h k = rw k (h a (source_out kind a b c a e ∙ eq-eqb a a refl))
-
-pub own_true : (kind a b c : ℕ) (z : State) → kind ≡ 2 → b ≡ 1 → own_of (row_by kind a b c) z ≡ set_of z a 2
-unfolding row_by own_of own_link digit
-own_true kind a b c z e f = rw (e, f) refl
-
-pub own_false : (kind a b c : ℕ) (z : State) → kind ≡ 2 → (b ≡ 1 → ⊥) → own_of (row_by kind a b c) z ≡ set_of z a 1
-unfolding row_by own_of own_link digit
-own_false kind a b c z e f = rw (e, ne_eqb b 1 f) refl
+pub own_below : (N : Row) (a : ℕ) (v : Bool) (c : ℕ) → N ≡ PREFIX (out a v) c → OwnBelow N → a < 64
+unfolding OwnBelow is_source own
+own_below N a v c e h = (rw e at h) a (eq-eqb a a refl)
 
 -- falsifying one link after another
 falsify_one : (f : ℕ → Bool) (i : ℕ) (z : State) (b : Bool) → i < 64 → f i ≡ b → falsify_from f i (64 - i) z ≡ falsify_from f (i + 1) (64 - (i + 1)) (cond b (set_of z i 1) z)
@@ -170,10 +154,8 @@ pub falsified_by : (ts : List ℕ) (n : ℕ) (μ : Marks) (row x : ℕ) (z : Sta
 unfolding falsified sets_at
 falsified_by ts n μ row x z h e = falsify_same (has_bit x) (sets (remainder_in ts n μ row)) 0 64 z refl (λ l k. e l k ∙ rw (lt-ltb row n h) refl)
 
-pub falsifies_by : (m : ℕ) → eqb m 1 ≡ falsifies (mode_of m)
-unfolding mode_of falsifies
-falsifies_by m = at (eqb m 1)
-  where
-    at : (b : Bool) → b ≡ falsifies (cond b cleaning plain)
-    at true = refl
-    at false = refl
+-- the two questions about the mode have one answer
+pub falsifies_same : (m : Mode) → falsifies m ≡ cleans m
+unfolding falsifies cleans
+falsifies_same plain = refl
+falsifies_same cleaning = refl

@@ -3,47 +3,49 @@
 #![tactic(auto)]
 
 ghost use Rattle.std.specs.Prelude.{◌≡◌, ◌+◌, ◌*◌, ◌<◌, ◌≤◌, length, get_or};
-ghost use Rattle.calculus.specs.Places.{falsifies};
-ghost use Rattle.steps.specs.Rows.{first_of, Tree};
+ghost use Rattle.steps.specs.Rows.{first_of};
 ghost use Rattle.steps.specs.InFront.{parent_of};
 ghost use Rattle.sheet.specs.Table.{row_at};
 ghost use Rattle.sheet.specs.Accepted.{RowsLent};
+ghost use Rattle.rows.specs.Term.{row_of};
 ghost use Rattle.reach.specs.Masks.{has_bit};
-ghost use Rattle.moves.specs.Steps.{mode_of, is_waiting_pick, falsify_from, falsified, decided_of, climbed, own_of, taken_of, dropped_of, counted_in};
-ghost use Rattle.effects.specs.Gather.{Gathers, own_sets, kept_first, kept_second, sets_at, AllKids, OwnBelow};
+ghost use Rattle.moves.specs.Steps.{is_waiting_pick, falsify_from, falsified, decided_of, climbed, own_of, taken_of, dropped_of, counted_in};
+ghost use Rattle.effects.specs.Gather.{Gathers, own_sets, kept_first, kept_second, sets_at, OwnBelow};
 
+use rows::term::TermRow;
 use state::State;
 
 // The link of a waiting OUT.
-fn own_bit(ts: &[u8], row: usize, mark: u8) -> u64
-    requires { row * 4 + 4 ≤ length ts.now }
-    ensures { Gathers result (own_sets (row_at ts.now row) mark) }
+fn own_bit(node: TermRow, mark: u8) -> u64
+    ensures { Gathers result (own_sets (row_of node) mark) }
 {
-    if !front::waiting_step(ts, row, mark) {
-        return 0;
+    match node {
+        TermRow::Out { link, .. } => if front::waits(mark) {
+            reach::bit(link)
+        } else {
+            0
+        },
+        _ => 0,
     }
-    if ts[row * 4] != 2 {
-        return 0;
-    }
-    reach::bit(ts[row * 4 + 1])
 }
 
-fn kept_first(ts: &[u8], n: usize, row: usize, mark: u8) -> usize
-    requires { row * 4 + 4 ≤ length ts.now }
-    ensures { result ≡ kept_first n (row_at ts.now row) mark }
+// The children in a row's remainder. Where there is none it is n, past every row, at which `gather` ends.
+#[tactic(auto, unfolding(crate::specs::Gather::kept_first))]
+fn kept_first(node: TermRow, n: usize, mark: u8) -> usize
+    ensures { result ≡ kept_first n (row_of node) mark }
 {
-    if front::keeps(ts, row, mark, false) {
-        return rows::first(ts, row) as usize;
+    if front::keeps(node, mark, false) {
+        return node.first() as usize;
     }
     n
 }
 
-fn kept_second(ts: &[u8], n: usize, row: usize, mark: u8) -> usize
-    requires { row * 4 + 4 ≤ length ts.now }
-    ensures { result ≡ kept_second n (row_at ts.now row) mark }
+#[tactic(auto, unfolding(crate::specs::Gather::kept_second))]
+fn kept_second(node: TermRow, n: usize, mark: u8) -> usize
+    ensures { result ≡ kept_second n (row_of node) mark }
 {
-    let child = rows::second(ts, row);
-    if front::keeps(ts, row, mark, true) & (child != 0) {
+    let child = node.second();
+    if front::keeps(node, mark, true) & (child != 0) {
         return child as usize;
     }
     n
@@ -51,16 +53,17 @@ fn kept_second(ts: &[u8], n: usize, row: usize, mark: u8) -> usize
 
 // The links that the remainder of a row sets.
 fn gather(ts: &[u8], n: usize, marks: &[u8; 256], row: usize) -> u64
-    requires { (n * 4 ≤ length ts.now) × ((n ≤ 256) × AllKids ts.now n) }
+    requires { RowsLent ts.now n }
     ensures { Gathers result (sets_at ts.now n (λ k. get_or marks.now k 0) row) }
 {
     if n <= row {
         return 0;
     }
+    let node = rows::term::term_row(ts, row);
     let mark = marks[row];
-    let a = gather(ts, n, marks, kept_first(ts, n, row, mark));
-    let b = gather(ts, n, marks, kept_second(ts, n, row, mark));
-    own_bit(ts, row, mark) | (a | b)
+    let a = gather(ts, n, marks, kept_first(node, n, mark));
+    let b = gather(ts, n, marks, kept_second(node, n, mark));
+    own_bit(node, mark) | (a | b)
 }
 
 // The links of the word become false.
@@ -68,13 +71,9 @@ fn falsify(word: u64, z: State) -> State
     ensures { result ≡ falsify_from (has_bit word) 0 64 z }
 {
     let mut state = z;
-    let mut l = 0;
-    while l < 64 {
+    for l in 0..64 {
         if reach::reached(word, l) {
             state = state.set_link(l, 1);
-            l += 1;
-        } else {
-            l += 1;
         }
     }
     state
@@ -82,88 +81,69 @@ fn falsify(word: u64, z: State) -> State
 
 // All links set by the remainder of the row become false.
 fn falsify_below(ts: &[u8], n: usize, marks: &[u8; 256], row: usize, z: State) -> State
-    requires { (n * 4 ≤ length ts.now) × ((n ≤ 256) × (AllKids ts.now n × (row < n))) }
+    requires { RowsLent ts.now n × (row < n) }
     ensures { result ≡ falsified ts.now n (λ k. get_or marks.now k 0) row z }
 {
     falsify(gather(ts, n, marks, row), z)
 }
 
-fn waiting_pick(ts: &[u8], row: usize, mark: u8) -> bool
-    requires { row * 4 + 4 ≤ length ts.now }
-    ensures { result ≡ is_waiting_pick (row_at ts.now row) mark }
+#[tactic(auto, unfolding(moves::specs::Steps::is_waiting_pick))]
+fn waiting_pick(node: TermRow, mark: u8) -> bool
+    ensures { result ≡ is_waiting_pick (row_of node) mark }
 {
-    if ts[row * 4] != 4 {
-        return false;
-    }
-    front::undecided(mark)
-}
-
-fn falsifies(mode: u8) -> bool
-    ensures { result ≡ falsifies (mode_of mode) }
-{
-    mode == 1
+    matches!(node, TermRow::Pick { .. }) & front::undecided(mark)
 }
 
 // The row p above j, if it is a waiting PICK, is decided towards j; in cleaning mode the links of the other branch become false.
 fn decide_above(ts: &[u8], n: usize, old: State, j: usize, p: usize, z: State) -> State
-    requires { (n * 4 ≤ length ts.now) × ((n ≤ 256) × (AllKids ts.now n × ((j < n) × ((p ≡ parent_of (row_at ts.now) j) × (p < j))))) }
+    requires { RowsLent ts.now n × ((j < n) × ((p ≡ parent_of (row_at ts.now) j) × (p < j))) }
     ensures { result ≡ decided_of ts.now n old j z }
 {
-    if !waiting_pick(ts, p, old.marks[p]) {
+    let node = rows::term::term_row(ts, p);
+    if !waiting_pick(node, old.marks[p]) {
         return z;
     }
-    let second = rows::second(ts, p) as usize;
+    let second = node.second() as usize;
     let right = second == j;
     let next = z.decide(p as u8, right);
-    if !falsifies(old.mode) {
+    if !front::cleans(old.mode) {
         return next;
     }
     if right {
-        return falsify_below(ts, n, &old.marks, rows::first(ts, p) as usize, next);
+        return falsify_below(ts, n, &old.marks, node.first() as usize, next);
     }
     falsify_below(ts, n, &old.marks, second, next)
 }
 
 // From the row up to row 0, each row looked at once: every waiting PICK above it is decided towards it.
 fn climb(ts: &[u8], n: usize, old: State, row: usize, z: State) -> State
-    requires { (n * 4 ≤ length ts.now) × ((n ≤ 256) × (Tree (row_at ts.now) n × (row < n))) }
+    requires { RowsLent ts.now n × (row < n) }
     ensures { result ≡ climbed ts.now n old row z }
 {
     let mut at = row;
-    let mut p = row;
     let mut state = z;
-    while 0 < p {
-        let q = p - 1;
-        if rows::names(ts, q, at) {
-            state = decide_above(ts, n, old, at, q, state);
-            at = q;
-            p = q;
-        } else {
-            p = q;
+    for p in (0..row).rev() {
+        if rows::names(ts, p, at) {
+            state = decide_above(ts, n, old, at, p, state);
+            at = p;
         }
     }
     state
 }
 
-fn wide(x: u8) -> usize
-    ensures { result ≡ x }
-{
-    x as usize
-}
-
 // An OUT sets its link.
-fn set_own(ts: &[u8], row: usize, z: State) -> State
-    requires { (row * 4 + 4 ≤ length ts.now) × OwnBelow (row_at ts.now row) }
-    ensures { result ≡ own_of (row_at ts.now row) z }
+#[tactic(auto, unfolding(moves::specs::Steps::own_of, moves::specs::Steps::own_link, conditions::specs::Numbers::digit))]
+fn set_own(node: TermRow, z: State) -> State
+    requires { OwnBelow (row_of node) }
+    ensures { result ≡ own_of (row_of node) z }
 {
-    if ts[row * 4] != 2 {
-        return z;
+    match node {
+        TermRow::Out { link, value, .. } => {
+            let byte = if value { 2 } else { 1 };
+            z.set_link(link as usize, byte)
+        }
+        _ => z,
     }
-    let link = wide(ts[row * 4 + 1]);
-    if ts[row * 4 + 2] == 1 {
-        return z.set_link(link, 2);
-    }
-    z.set_link(link, 1)
 }
 
 // The row is passed, and the counts are those of what is left.
@@ -172,7 +152,7 @@ pub fn taken(m: usize, ts: &[u8], n: usize, old: State, row: usize) -> State
     ensures { result ≡ counted_in m ts.now n (taken_of ts.now n old row) }
 {
     let passed = old.pass(row as u8);
-    let told = set_own(ts, row, passed);
+    let told = set_own(rows::term::term_row(ts, row), passed);
     let decided = climb(ts, n, old, row, told);
     counts::counted(m, ts, n, decided)
 }

@@ -74,11 +74,10 @@ pub fn waiting_step(ts: &[u8], row: usize, mark: u8) -> bool
 
 // The row's remainder has what is below it.
 #[tactic(auto, using(crate::proofs::ByKind::keeps_mark), unfolding(moves::specs::Fits::keeps, steps::specs::Marks::open_branches, steps::specs::InFront::opens))]
-pub fn keeps(ts: &[u8], row: usize, mark: u8, right: bool) -> bool
-    requires { row * 4 + 4 ≤ length ts.now }
-    ensures { result ≡ keeps (row_at ts.now row) mark right }
+pub fn keeps(node: TermRow, mark: u8, right: bool) -> bool
+    ensures { result ≡ keeps (row_of node) mark right }
 {
-    match rows::term::term_row(ts, row) {
+    match node {
         TermRow::Nil => false,
         TermRow::Act { .. } | TermRow::Out { .. } | TermRow::Join { .. } => mark != 4,
         TermRow::Pick { .. } => opens(mark, right),

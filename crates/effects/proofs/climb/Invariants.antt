@@ -3,6 +3,3 @@ use Rattle.effects.proofs.climb.Given as goal
 
 abbrev pub invariant-loop-p : goal.invariant-loop-p
 invariant-loop-p l = Climbs l.ts l.n l.old l.row l.initial.state l.at l.p l.state
-
-abbrev pub decreases-loop-p : goal.decreases-loop-p
-decreases-loop-p l = l.p

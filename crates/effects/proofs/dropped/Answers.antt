@@ -2,7 +2,7 @@ use Rattle.moves.specs.Steps.{dropped_of}
 use Rattle.effects.proofs.dropped.Goals as goal
 
 pub falsify_below-cleaned-requires : goal.falsify_below-cleaned-requires
-falsify_below-cleaned-requires c = let q = c.requires in (q.0.1.1.0, (q.0.1.0, (q.0.1.1.1.kids, rw c.first.ensures q.1.1)))
+falsify_below-cleaned-requires c = let q = c.requires in (q.0.1, rw c.first.ensures q.1.1)
 
 pub returns : goal.returns
 unfolding dropped_of

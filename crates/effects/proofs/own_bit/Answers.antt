@@ -1,16 +1,15 @@
-use borrow.Author.Tests.{ne_eqb}
-use mathlib.Core.Path.{sym, ◌∙◌}
-use Rattle.sheet.specs.Table.{row_at}
+use mathlib.Core.Path.{sym, ap, ◌∙◌}
+use Rattle.steps.specs.InFront.{waiting_step}
+use Rattle.rows.specs.Term.{row_of}
 use Rattle.effects.proofs.Climbing.{gathers_waits, gathers_other, gathers_out}
 use Rattle.effects.proofs.own_bit.Goals as goal
 
-pub returns-then-not-waiting_step : goal.returns-then-not-waiting_step
-returns-then-not-waiting_step c = gathers_waits _ _ (sym c.waiting_step.ensures ∙ c.if-not-waiting_step.true)
+pub returns-then-waits : goal.returns-then-waits
+returns-then-waits c = gathers_out _ _ _ _ _ _ (ap row_of c.in-Out.is) (sym c.waits.ensures ∙ c.if-waits.true) c.bit.ensures
 
-pub returns-then-ts-row-ne2 : goal.returns-then-ts-row-ne2
-unfolding row_at
-returns-then-ts-row-ne2 c = gathers_other _ _ _ _ _ (ne_eqb _ 2 c.if-ts-row-ne2.true)
+pub returns-else-waits : goal.returns-else-waits
+unfolding waiting_step
+returns-else-waits c = gathers_waits _ _ (rw c.in-Out.is (sym c.waits.ensures ∙ c.if-waits.false))
 
-pub returns : goal.returns
-unfolding row_at
-returns c = gathers_out _ _ _ _ _ _ c.if-ts-row-ne2.false (sym c.waiting_step.ensures ∙ c.if-not-waiting_step.false) c.bit.ensures
+pub returns-in_default : goal.returns-in_default
+returns-in_default c = gathers_other _ _ c.in_default.not-Out
