@@ -1,4 +1,3 @@
-pub mod ByKind
 pub mod Reaching
 pub mod Flagging
 pub mod Excerpted

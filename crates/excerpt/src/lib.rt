@@ -2,27 +2,29 @@
 
 #![tactic(auto)]
 
-ghost use Rattle.std.specs.Prelude.{◌≡◌, ◌+◌, ◌*◌, ◌<◌, ◌≤◌, length};
+ghost use Rattle.std.specs.Prelude.{◌≡◌, ℕ, ◌+◌, ◌*◌, ◌<◌, ◌≤◌, length};
 ghost use Rattle.laws.specs.Sums.{count};
-ghost use Rattle.sheet.specs.Table.{condition_row_by, condition_row_at};
+ghost use Rattle.conditions.specs.Conditions.{OP};
+ghost use Rattle.sheet.specs.Table.{condition_row_at};
+ghost use Rattle.layout.specs.Bytes.{four, condition_bytes};
+ghost use Rattle.rows.specs.Conditions.{operator_of};
 ghost use Rattle.flags.specs.Flags.{flagged, Shows};
 ghost use Rattle.laying.specs.LaidIn.{LaidIn};
 ghost use Rattle.damage.specs.Reached.{reaches_row, LowerTo};
 ghost use Rattle.excerpt.specs.Excerpt.{with_operands, new_bytes, new_conditions, Excerpts};
 
+use rows::condition::{ConditionRow, Operator, condition_row};
+
 // The operands of a row are flagged too.
-fn flag_operands(kind: u8, a: u8, b: u8, flags: &mut [u8; 256])
-    requires { length flags.old ≡ 256 }
-    ensures { flags.new ≡ with_operands (condition_row_by kind a b) flags.old }
+#[tactic(auto, unfolding(crate::specs::Excerpt::with_operands, rows::specs::Conditions::row_of))]
+fn flag_operands(cs: &[u8], row: usize, flags: &mut [u8; 256])
+    requires { (row * 4 + 4 ≤ length cs.now) × (length flags.old ≡ 256) }
+    ensures { flags.new ≡ with_operands (condition_row_at cs.now row) flags.old }
 {
-    if kind < 3 {
-        return;
+    if let ConditionRow::Operation(_, a, b) = condition_row(cs, row) {
+        flags[a as usize] = 1;
+        flags[b as usize] = 1;
     }
-    if 6 < kind {
-        return;
-    }
-    flags[a as usize] = 1;
-    flags[b as usize] = 1;
 }
 
 // The rows that row c reaches. Operands have lower numbers, so the last row comes first.
@@ -32,39 +34,44 @@ fn reached_rows(cs: &[u8], c: u8) -> [u8; 256]
 {
     let mut flags = [0; 256];
     flags[c as usize] = 1;
-    let mut i = c as usize + 1;
-    while 0 < i {
-        let row = i - 1;
+    for row in (0..c as usize + 1).rev() {
         if flags[row] == 1 {
-            let at = row * 4;
-            flag_operands(cs[at], cs[at + 1], cs[at + 2], &mut flags);
-            i = row;
-        } else {
-            i = row;
+            flag_operands(cs, row, &mut flags);
         }
     }
     flags
 }
 
+// The kind of an operator's rows.
+#[tactic(auto, unfolding(rows::specs::Conditions::operator_of, layout::specs::Bytes::condition_bytes))]
+fn kind_of(o: Operator) -> u8
+    ensures { (a b : ℕ) → condition_bytes (OP (operator_of o) a b) ≡ four result a b 0 }
+{
+    match o {
+        Operator::And => 3,
+        Operator::Or => 4,
+        Operator::Eq => 5,
+        Operator::Ne => 6,
+    }
+}
+
 // The bytes of a row, its operands under their new numbers.
+#[tactic(auto, unfolding(crate::specs::Excerpt::new_bytes, damage::specs::Reached::renumbered_condition, rows::specs::Conditions::row_of, layout::specs::Bytes::condition_bytes))]
 fn new_row(cs: &[u8], row: usize, ranks: &[u8; 256]) -> [u8; 4]
     requires { row * 4 + 4 ≤ length cs.now }
     ensures { result ≡ new_bytes (condition_row_at cs.now row) ranks.now }
 {
-    let at = row * 4;
-    let kind = cs[at];
-    let a = cs[at + 1];
-    let b = cs[at + 2];
-    match kind {
-        0 => [0, 0, 0, 0],
-        1 => [1, 0, 0, 0],
-        2 => [2, a, 0, 0],
-        _ => {
-            if kind < 7 {
-                [kind, laying::entry(ranks, a), laying::entry(ranks, b), 0]
-            } else {
-                [0, 0, 0, 0]
-            }
+    match condition_row(cs, row) {
+        ConditionRow::False => [0, 0, 0, 0],
+        ConditionRow::True => [1, 0, 0, 0],
+        ConditionRow::Link(l) => [2, l, 0, 0],
+        ConditionRow::Operation(o, a, b) => {
+            [
+                kind_of(o),
+                laying::entry(ranks, a),
+                laying::entry(ranks, b),
+                0,
+            ]
         }
     }
 }
@@ -75,15 +82,10 @@ fn new_rows(cs: &[u8], k: usize, flags: &[u8; 256], ranks: &[u8; 256], out: &mut
     ensures { LaidIn (count (flagged flags.now) k) (new_conditions cs.now k flags.now ranks.now) result out.new }
 {
     let mut count = 0;
-    let mut i = 0;
-    while i < k {
+    for i in 0..k {
         if flags[i] == 1 {
-            let row = new_row(cs, i, ranks);
-            laying::put(out, count * 4, row);
+            laying::put(out, count * 4, new_row(cs, i, ranks));
             count += 1;
-            i += 1;
-        } else {
-            i += 1;
         }
     }
     count

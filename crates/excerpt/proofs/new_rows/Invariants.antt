@@ -1,4 +1,4 @@
-use Prim.Native.Nat.{◌-◌, ◌≤◌}
+use Prim.Native.Nat.{◌≤◌}
 use Rattle.sheet.specs.Table.{condition_row_at}
 use Rattle.flags.specs.Flags.{flagged}
 use Rattle.laying.proofs.Laid.{Laid}
@@ -6,7 +6,4 @@ use Rattle.excerpt.specs.Excerpt.{new_bytes}
 use Rattle.excerpt.proofs.new_rows.Given as goal
 
 abbrev pub invariant-loop-i : goal.invariant-loop-i
-invariant-loop-i l = (l.i ≤ l.k) × ((l.count ≤ l.i) × Laid (λ j. new_bytes (condition_row_at l.cs j) l.ranks) (flagged l.flags) l.k l.initial.out l.i l.count l.out)
-
-abbrev pub decreases-loop-i : goal.decreases-loop-i
-decreases-loop-i l = l.k - l.i
+invariant-loop-i l = (l.count ≤ l.i) × Laid (λ j. new_bytes (condition_row_at l.cs j) l.ranks) (flagged l.flags) l.k l.initial.out l.i l.count l.out
