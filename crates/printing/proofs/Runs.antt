@@ -19,7 +19,7 @@ use Rattle.sheet_engine.specs.declared.StandingAnswer.{StandingAnswer}
 use Rattle.sheet_engine.specs.declared.StandingAnswer.TheVariants as standing
 use Rattle.sheet_engine.specs.Answers.{list_answer, list_buffer, standing_of, standing_answer, standing_buffer, waits_answer, waits_buffer, step_answer}
 use Rattle.sheet_engine.specs.Values.{standing_values}
-use Rattle.sheet_engine.proofs.Stands.{stands_rows, one_word}
+use Rattle.sheet_engine.proofs.HowItStands.{stands_rows, one_word}
 use Rattle.promises.specs.Calls.{Accepted, count_of}
 use Rattle.promises.proofs.Calls.{refusal, unrefused, list_answers, few_listed, standing_is, few_waiting, waits_is, few_awaited, ok_is, answer_is, state_is, stepped}
 use Rattle.lines.specs.Lines.{step_line, last_line}

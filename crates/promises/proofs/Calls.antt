@@ -1,4 +1,5 @@
 -- The calls with a table and a state, where nothing is refused, answer what `moves` defines; and a refused one lists and takes nothing. Assumes nothing.
+use Rattle.std.specs.Prelude.{Result, Ok}
 use Prim.Native.Nat.{ℕ, ◌≤◌}
 use mathlib.Core.Path.{◌≡◌, refl, sym, ◌∙◌, ap, ap₂, subst}
 use mathlib.Core.Bool.{true, false, true≢false}
@@ -19,8 +20,6 @@ use Rattle.sheet.specs.Table.{Table}
 use Rattle.sheet.specs.Rules.{refuse, refusal_of}
 use Rattle.sheet.specs.Accepted.{WellFormed, SingleSource}
 use Rattle.sheet.proofs.Accepted.{meets, well_formed, single_source}
-use Rattle.codec.specs.declared.SizeAnswer.{SizeAnswer}
-use Rattle.codec.specs.declared.SizeAnswer.TheVariants.{Size}
 use Rattle.state.specs.declared.State.{State}
 use Rattle.state.specs.declared.StepKind.{StepKind}
 use Rattle.state.specs.declared.StepKind.TheVariants.{Clean}
@@ -39,11 +38,11 @@ use Rattle.engine.specs.declared.Stepped.{Stepped}
 use Rattle.engine.specs.ByValue.{taken_answer}
 use Rattle.engine.proofs.Known.{kind_step}
 use Rattle.sheet_engine.specs.declared.Compacted.{Compacted}
-use Rattle.sheet_engine.specs.declared.StandingAnswer.{StandingAnswer}
+use Rattle.sheet_engine.specs.declared.Stands.{Stands}
 use Rattle.sheet_engine.specs.Answers.{list_answer, call_checks, list_buffer, standing_of, standing_answer, standing_buffer, waits_answer, waits_buffer, kind_answer, step_answer, compact_answer}
 use Rattle.sheet_engine.specs.Values.{size_values, standing_values, step_values}
-use Rattle.sheet_engine.proofs.Steps.{table_first, state_then, kind_refused, kind_given, step_refused_law, step_given, list_refused, list_given, stand_refused, stand_given, waits_refused, waits_given, compact_refused}
-use Rattle.sheet_engine.proofs.Stands.{stands_rows}
+use Rattle.sheet_engine.proofs.Steps.{refusal_first, refusal_then, kind_refused, kind_given, step_refused_law, step_given, list_refused, list_given, stand_refused, stand_given, waits_refused, waits_given, compact_refused}
+use Rattle.sheet_engine.proofs.HowItStands.{stands_rows}
 use Rattle.promises.specs.Calls.{Accepted, count_of, listed_in, listed_rows, waiting_in, waiting_rows, awaited_in, awaited_bytes, Run, done, more, taken, last}
 
 -- what acceptance of the table gives
@@ -66,19 +65,19 @@ module _ (t : Table) (s : State) where
   of_state = checked refuse (refuse 0 0) (state_checks t.m t.n t.terms s)
 
   pub unrefused : Accepted t s → refusal.number ≡ 0
-  unrefused a = ap (λ (r : Refusal). r.number) (sym (state_then t s (refusal_of t) refl a.table of_state refl) ∙ accepts_fitting t s of_state refl a.mode a.fits)
+  unrefused a = ap (λ (r : Refusal). r.number) (sym (refusal_then t s a.table) ∙ accepts_fitting t s of_state refl a.mode a.fits)
 
   -- such a call is not refused
   module _ (e : refusal.number ≡ 0) where
     table_accepted : (refusal_of t).number ≡ 0
     table_accepted =
         by_cases (ℕ_discrete (refusal_of t).number 0) (λ z. z)
-        (λ h. absurd (h (ap (λ (r : Refusal). r.number) (table_first t s (refusal_of t) refl h) ∙ e)))
+        (λ h. absurd (h (ap (λ (r : Refusal). r.number) (refusal_first t s h) ∙ e)))
 
     pub accepts : Sized s → Accepted t s
     accepts size =
         let z = table_accepted in
-        let (m, f) = fits_accepted t s of_state refl (ap (λ (r : Refusal). r.number) (state_then t s (refusal_of t) refl z of_state refl) ∙ e) in
+        let (m, f) = fits_accepted t s of_state refl (ap (λ (r : Refusal). r.number) (refusal_then t s z) ∙ e) in
         record { table = z; mode = m; fits = f; sized = size }
 
     pub kind_is : (r : ℕ) → kind_answer t s r ≡ kind_at t s r
@@ -87,7 +86,7 @@ module _ (t : Table) (s : State) where
     pub step_is : (r : ℕ) → step_answer t s r ≡ taken_answer t s r
     step_is r = sym (step_given t s refusal refl r (taken_answer t s r) e refl)
 
-    pub list_answers : (lent : List ℕ) → length (listed_of t s) ≤ length lent → (list_answer t s (length lent) ≡ Size (length (listed_of t s))) × (list_buffer t s lent ≡ listed_of t s ++ drop (length (listed_of t s)) lent)
+    pub list_answers : (lent : List ℕ) → length (listed_of t s) ≤ length lent → (list_answer t s (length lent) ≡ Ok (length (listed_of t s))) × (list_buffer t s lent ≡ listed_of t s ++ drop (length (listed_of t s)) lent)
     list_answers lent h =
         let (c, b) = list_given t s refusal refl lent (listed_of t s ++ drop (length (listed_of t s)) lent) (length (listed_of t s)) e refl (written_fits (listed_of t s) lent _ h refl) h in
         (sym c, sym b)
@@ -95,7 +94,7 @@ module _ (t : Table) (s : State) where
     -- "a step list needs one byte for each listed step and no more"
     pub listed_is : (lent : List ℕ) → length (listed_of t s) ≤ length lent → listed_in t s lent ≡ listed_of t s
     unfolding listed_in
-    listed_is lent h = let (c, b) = list_answers lent h in ap₂ (λ (n : SizeAnswer) (out : List ℕ). take (count_of n) out) c b ∙ take_at (listed_of t s) _ _ refl
+    listed_is lent h = let (c, b) = list_answers lent h in ap₂ (λ (n : Result ℕ Refusal) (out : List ℕ). take (count_of n) out) c b ∙ take_at (listed_of t s) _ _ refl
 
     pub few_listed : length (listed_of t s) ≤ 256
     unfolding listed_of
@@ -105,33 +104,33 @@ module _ (t : Table) (s : State) where
     rows_are = listed_is (replicate 256 0) few_listed
 
     -- how the state stands, and the rows that it waits for, one byte each and no more
-    pub standing_is : (lent : List ℕ) → length (waiting_of t s) ≤ length lent → (standing_answer t s (length lent) ≡ standing_of t s) × (standing_buffer t s lent ≡ waiting_of t s ++ drop (length (waiting_of t s)) lent)
+    pub standing_is : (lent : List ℕ) → length (waiting_of t s) ≤ length lent → (standing_answer t s (length lent) ≡ Ok (standing_of t s)) × (standing_buffer t s lent ≡ waiting_of t s ++ drop (length (waiting_of t s)) lent)
     standing_is lent h =
         let (c, b) = stand_given t s refusal refl lent (waiting_of t s ++ drop (length (waiting_of t s)) lent) (length (waiting_of t s)) e refl (written_fits (waiting_of t s) lent _ h refl) h (standing_of t s) refl in
         (sym c, sym b)
 
     pub waiting_is : (lent : List ℕ) → length (waiting_of t s) ≤ length lent → waiting_in t s lent ≡ waiting_of t s
     unfolding waiting_in
-    waiting_is lent h = let (c, b) = standing_is lent h in ap₂ (λ (a : StandingAnswer) (out : List ℕ). take (standing_values a).rows out) c b ∙ take_at (waiting_of t s) _ _ (sym (stands_rows t s).1)
+    waiting_is lent h = let (c, b) = standing_is lent h in ap₂ (λ (a : Result Stands Refusal) (out : List ℕ). take (standing_values a).rows out) c b ∙ take_at (waiting_of t s) _ _ (sym (stands_rows t s).1)
 
     pub few_waiting : length (waiting_of t s) ≤ 256
     few_waiting = omega (arith, waiting_few t s, (well_formed t (meets t table_accepted)).few_terms)
 
-    pub standing_any : (lent : ℕ) → length (waiting_of t s) ≤ lent → standing_answer t s lent ≡ standing_of t s
+    pub standing_any : (lent : ℕ) → length (waiting_of t s) ≤ lent → standing_answer t s lent ≡ Ok (standing_of t s)
     standing_any lent h = let l = length-replicate {A = ℕ} lent 0 in ap (standing_answer t s) (sym l) ∙ (standing_is (replicate lent 0) (omega (arith, h, l))).0
 
     pub waiting_are : waiting_rows t s ≡ waiting_of t s
     waiting_are = waiting_is (replicate 256 0) few_waiting
 
     -- what they wait for, one byte each and no more
-    pub waits_is : (lent : List ℕ) → length (awaits_of t s) ≤ length lent → (waits_answer t s (length lent) ≡ Size (length (awaits_of t s))) × (waits_buffer t s lent ≡ awaits_of t s ++ drop (length (awaits_of t s)) lent)
+    pub waits_is : (lent : List ℕ) → length (awaits_of t s) ≤ length lent → (waits_answer t s (length lent) ≡ Ok (length (awaits_of t s))) × (waits_buffer t s lent ≡ awaits_of t s ++ drop (length (awaits_of t s)) lent)
     waits_is lent h =
         let (c, b) = waits_given t s refusal refl lent (awaits_of t s ++ drop (length (awaits_of t s)) lent) (length (awaits_of t s)) e (awaits_length t s) (written_fits (awaits_of t s) lent _ h refl) h in
         (sym c, sym b)
 
     pub awaited_is : (lent : List ℕ) → length (awaits_of t s) ≤ length lent → awaited_in t s lent ≡ awaits_of t s
     unfolding awaited_in
-    awaited_is lent h = let (c, b) = waits_is lent h in ap₂ (λ (n : SizeAnswer) (out : List ℕ). take (count_of n) out) c b ∙ take_at (awaits_of t s) _ _ refl
+    awaited_is lent h = let (c, b) = waits_is lent h in ap₂ (λ (n : Result ℕ Refusal) (out : List ℕ). take (count_of n) out) c b ∙ take_at (awaits_of t s) _ _ refl
 
     pub few_awaited : length (awaits_of t s) ≤ 256
     few_awaited = omega (arith, awaits_length t s, few_waiting)
@@ -166,15 +165,15 @@ module _ (t : Table) (s : State) where
   module _ (h : refusal.number ≡ 0 → ⊥) where
     none_listed : (lent : List ℕ) → listed_in t s lent ≡ []
     unfolding listed_in
-    none_listed lent = ap (λ (n : SizeAnswer). take (count_of n) (list_buffer t s lent)) (sym (list_refused t s refusal refl lent h).0)
+    none_listed lent = ap (λ (n : Result ℕ Refusal). take (count_of n) (list_buffer t s lent)) (sym (list_refused t s refusal refl lent h).0)
 
     none_waiting : (lent : List ℕ) → waiting_in t s lent ≡ []
     unfolding waiting_in
-    none_waiting lent = ap (λ (a : StandingAnswer). take (standing_values a).rows (standing_buffer t s lent)) (sym (stand_refused t s refusal refl lent h).0)
+    none_waiting lent = ap (λ (a : Result Stands Refusal). take (standing_values a).rows (standing_buffer t s lent)) (sym (stand_refused t s refusal refl lent h).0)
 
     none_awaited : (lent : List ℕ) → awaited_in t s lent ≡ []
     unfolding awaited_in
-    none_awaited lent = ap (λ (n : SizeAnswer). take (count_of n) (waits_buffer t s lent)) (sym (waits_refused t s refusal refl lent h).0)
+    none_awaited lent = ap (λ (n : Result ℕ Refusal). take (count_of n) (waits_buffer t s lent)) (sym (waits_refused t s refusal refl lent h).0)
 
     none_taken : (r : ℕ) → (step_answer t s r).ok ≡ false
     none_taken r = ap (λ (k : Stepped). k.ok) (sym (step_refused_law t s refusal refl r h))
@@ -217,13 +216,13 @@ module _ (t : Table) (s : State) where
     told number same z = by_cases (ℕ_discrete refusal.number 0) (λ e. accepts e size) (λ h. absurd (h (same h ∙ z)))
 
     pub list_unrefused : (lent : List ℕ) → (size_values (list_answer t s (length lent))).refusal ≡ 0 → Accepted t s
-    list_unrefused lent = told _ (λ h. ap (λ (n : SizeAnswer). (size_values n).refusal) (list_refused t s refusal refl lent h).0)
+    list_unrefused lent = told _ (λ h. ap (λ (n : Result ℕ Refusal). (size_values n).refusal) (list_refused t s refusal refl lent h).0)
 
     pub standing_unrefused : (lent : List ℕ) → (standing_values (standing_answer t s (length lent))).refusal ≡ 0 → Accepted t s
-    standing_unrefused lent = told _ (λ h. ap (λ (a : StandingAnswer). (standing_values a).refusal) (stand_refused t s refusal refl lent h).0)
+    standing_unrefused lent = told _ (λ h. ap (λ (a : Result Stands Refusal). (standing_values a).refusal) (stand_refused t s refusal refl lent h).0)
 
     pub waits_unrefused : (lent : List ℕ) → (size_values (waits_answer t s (length lent))).refusal ≡ 0 → Accepted t s
-    waits_unrefused lent = told _ (λ h. ap (λ (n : SizeAnswer). (size_values n).refusal) (waits_refused t s refusal refl lent h).0)
+    waits_unrefused lent = told _ (λ h. ap (λ (n : Result ℕ Refusal). (size_values n).refusal) (waits_refused t s refusal refl lent h).0)
 
     pub kind_unrefused : (r : ℕ) → (step_values (kind_answer t s r)).refusal ≡ 0 → Accepted t s
     kind_unrefused r = told _ (λ h. ap (λ (k : StepKind). (step_values k).refusal) (kind_refused t s refusal refl r h))
@@ -240,7 +239,7 @@ module _ (t : Table) (s : State) where
     accepted_listed lent room =
         let e = unrefused a in
         let (c, _) = list_answers e (replicate lent 0) (omega (arith, few_listed e, room, length-replicate {A = ℕ} lent 0)) in
-        ap (λ (n : SizeAnswer). (size_values n).refusal) (ap (list_answer t s) (sym (length-replicate {A = ℕ} lent 0)) ∙ c)
+        ap (λ (n : Result ℕ Refusal). (size_values n).refusal) (ap (list_answer t s) (sym (length-replicate {A = ℕ} lent 0)) ∙ c)
 
     pub stepped : (r : ℕ) → has_step t s r ≡ true → Accepted t (stepped_of t s r)
     stepped r h =

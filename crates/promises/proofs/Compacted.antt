@@ -1,4 +1,6 @@
 -- DOCUMENT 02, REQUEST 8: what `compact` hands out is a sheet that is accepted and a state that fits it, and the runs from there match the runs from the old state, both ways. For any state that is accepted, in both modes; no verdict is asked. Assumes nothing.
+use Rattle.sheet.specs.declared.Refusal.{Refusal}
+use Rattle.std.specs.Prelude.{Result, Ok}
 use Prim.Native.Nat.{ℕ, ◌+◌, ◌*◌, ◌<◌, ◌≤◌}
 use mathlib.Core.Path.{◌≡◌, refl, sym, ◌∙◌, ap, ap₂, subst}
 use mathlib.Core.Bool.{true, true≢false}
@@ -15,8 +17,6 @@ use Rattle.sheet.specs.Table.{Table, table_of, cut, is_compacted}
 use Rattle.sheet.specs.Rules.{wants, refusal_of}
 use Rattle.sheet.specs.Sheet.{terms_at, table_in}
 use Rattle.sheet.proofs.Beyond.{cut_twice}
-use Rattle.codec.specs.declared.SheetAnswer.TheVariants as sheet
-use Rattle.codec.specs.declared.SizeAnswer.{SizeAnswer}
 use Rattle.codec.specs.Answers.{read_of}
 use Rattle.codec.proofs.Writing.{sheet_length}
 use Rattle.codec.proofs.RoundTrip.{head_back, terms_back, conditions_back, read_of_sheet}
@@ -73,7 +73,7 @@ module _ (t : Table) (s : State) (accepted : Accepted t s) (lent : List ℕ) (an
   held = (compacted_accepted t s accepted).table
 
   -- it is read: its head, and its rows, which are those of the compacted table
-  pub sheet_read_law : read_of (sheet_made t s lent) ≡ sheet.Sheet (compacted_head t s)
+  pub sheet_read_law : read_of (sheet_made t s lent) ≡ Ok (compacted_head t s)
   sheet_read_law = ap read_of sheet_made_law ∙ read_of_sheet (compacted_head t s) (compacted_terms t s) t.conditions held
 
   pub table_made_law : made ≡ cut (compacted t s)
@@ -94,7 +94,7 @@ module _ (t : Table) (s : State) (accepted : Accepted t s) (lent : List ℕ) (an
   made_accepted =
       rw same_state
       (list_unrefused made (restarted t s) (compacted_accepted t s accepted).sized (replicate 256 0)
-      (ap (λ (n : SizeAnswer). (size_values n).refusal) (alike.listed (restarted t s) 256) ∙ accepted_listed (compacted t s) (restarted t s) (compacted_accepted t s accepted) 256 (omega arith)))
+      (ap (λ (n : Result ℕ Refusal). (size_values n).refusal) (alike.listed (restarted t s) 256) ∙ accepted_listed (compacted t s) (restarted t s) (compacted_accepted t s accepted) 256 (omega arith)))
 
   -- what matches a run of the compacted table matches the run of the sheet that takes the same steps
   matches_alike : {z : State} (G : Run (compacted t s) z) (G' : Run made z) → taken G' ≡ taken G → last G' ≡ last G → (H : Run t s) → Matches G H → Matches G' H

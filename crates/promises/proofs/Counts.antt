@@ -18,10 +18,9 @@ use Rattle.conditions.proofs.Evaluation.{set_value}
 use Rattle.steps.specs.InFront.{waiting_act}
 use Rattle.sheet.specs.declared.Refusal.{Refusal}
 use Rattle.sheet.specs.Table.{Table, process_of}
-use Rattle.sheet.specs.Rules.{refuse, refusal_of}
+use Rattle.sheet.specs.Rules.{refuse, refusal_of, no}
 use Rattle.sheet.specs.Sheet.{room}
 use Rattle.sheet.proofs.Refusals.{without}
-use Rattle.codec.specs.declared.SizeAnswer.TheVariants as size
 use Rattle.state.specs.declared.State.{State}
 use Rattle.state.specs.declared.StepKind.TheVariants as kind
 use Rattle.moves.specs.Steps.{marks_of, links_of, Sized, nodes, left_in, listed_of, acts_of, act_in, unset_of}
@@ -31,7 +30,6 @@ use Rattle.moves.proofs.Fits.{counts_said}
 use Rattle.moves.proofs.Counts.{acts_by_row, act_row}
 use Rattle.moves.proofs.Demand.{fresh_left, fresh_links}
 use Rattle.compacted.specs.Compacted.{compacted_sheet}
-use Rattle.sheet_engine.specs.declared.StandingAnswer.TheVariants as stands
 use Rattle.sheet_engine.specs.Answers.{acts_left, links_unset, call_checks, list_answer, standing_answer, waits_answer, kind_answer, not_taken, step_answer, not_compacted, compact_answer}
 use Rattle.sheet_engine.proofs.Values.{all_held}
 use Rattle.sheet_engine.proofs.Steps.{state_back}
@@ -127,17 +125,17 @@ module _ (t : Table) (s : State) (others : AllHold (up_to_d t s)) (wrong : FullC
     lowest = λ p _ below. absurd (let no : ⊥ = omega arith in no);
   }
 
-  pub list_wrong : (lent : ℕ) → list_answer t s lent ≡ size.Refused 10 0
+  pub list_wrong : (lent : ℕ) → list_answer t s lent ≡ no 10 0
   unfolding list_answer
-  list_wrong lent = first_fails size.Refused _ (wrong_first (room (length (listed_of t s)) lent ∷ []))
+  list_wrong lent = first_fails no _ (wrong_first (room (length (listed_of t s)) lent ∷ []))
 
-  pub standing_wrong : (lent : ℕ) → standing_answer t s lent ≡ stands.Refused 10 0
+  pub standing_wrong : (lent : ℕ) → standing_answer t s lent ≡ no 10 0
   unfolding standing_answer
-  standing_wrong lent = first_fails stands.Refused _ (wrong_first (room (length (waiting_of t s)) lent ∷ []))
+  standing_wrong lent = first_fails no _ (wrong_first (room (length (waiting_of t s)) lent ∷ []))
 
-  pub waits_wrong : (lent : ℕ) → waits_answer t s lent ≡ size.Refused 10 0
+  pub waits_wrong : (lent : ℕ) → waits_answer t s lent ≡ no 10 0
   unfolding waits_answer
-  waits_wrong lent = first_fails size.Refused _ (wrong_first (room (length (waiting_of t s)) lent ∷ []))
+  waits_wrong lent = first_fails no _ (wrong_first (room (length (waiting_of t s)) lent ∷ []))
 
   pub compact_wrong : (lent : ℕ) → compact_answer t s lent ≡ not_compacted s 10 0
   unfolding compact_answer

@@ -1,4 +1,5 @@
 -- DOCUMENT 02, REQUEST 9: the small sheet that `damage_sheet` hands out is accepted, activities 1, 2 in that order can run on it with cleaning, and no plain run has them; and 15 is given exactly where the request says. Assumes nothing.
+use Rattle.std.specs.Prelude.{Result, Ok}
 use Prim.Native.Nat.{ℕ, ◌<◌, ◌≤◌}
 use mathlib.Core.Path.{◌≡◌, refl, sym, ◌∙◌, ap, ap₂, subst}
 use mathlib.Core.Bool.{true, false}
@@ -23,14 +24,11 @@ use Rattle.steps.specs.Rows.{PREFIX, is_join_prefix, is_join, condition_of_prefi
 use Rattle.steps.proofs.Rows.{join_of}
 use Rattle.sheet.specs.declared.Refusal.{Refusal}
 use Rattle.sheet.specs.Table.{Table, table_of, row_at, condition_row_at, evaluation_of, lazy_of, is_compacted, eval_in}
-use Rattle.sheet.specs.Rules.{table_checks, refuse, refusal_of}
+use Rattle.sheet.specs.Rules.{table_checks, refuse, refusal_of, no}
 use Rattle.sheet.specs.Sheet.{table_in, room}
 use Rattle.sheet.proofs.Refusals.{without}
 use Rattle.sheet.proofs.Accepted.{meets}
 use Rattle.sheet.proofs.Beyond.{meets_accepted}
-use Rattle.codec.specs.declared.SheetAnswer.TheVariants as sheet
-use Rattle.codec.specs.declared.SizeAnswer.{SizeAnswer}
-use Rattle.codec.specs.declared.SizeAnswer.TheVariants as size
 use Rattle.codec.specs.Answers.{read_of}
 use Rattle.codec.proofs.RoundTrip.{head_back, terms_back, conditions_back, read_of_sheet}
 use Rattle.failure.specs.Failure.{fails_at, number_at}
@@ -145,8 +143,8 @@ module _ (t : Table) (row : ℕ) (lent : List ℕ) (answered : (size_values (dam
   pub sheet_shown_law : sheet_shown t row lent ≡ shown_sheet t row
   unfolding damage_answer damage_buffer
   sheet_shown_law =
-      ap₂ (λ (a : SizeAnswer) (out : List ℕ). take (count_of a) out)
-      (all_hold size.Refused (size.Size (length (shown_sheet t row))) (damage_checks t row (length lent)) all)
+      ap₂ (λ (a : Result ℕ Refusal) (out : List ℕ). take (count_of a) out)
+      (all_hold no (Ok (length (shown_sheet t row))) (damage_checks t row (length lent)) all)
       (all_hold (λ number place. lent) (written (shown_sheet t row) lent) (damage_checks t row (length lent)) all ∙ sym (written_fits (shown_sheet t row) lent _ fits refl)) ∙
       take_at (shown_sheet t row) _ _ refl
 
@@ -158,7 +156,7 @@ module _ (t : Table) (row : ℕ) (lent : List ℕ) (answered : (size_values (dam
   made = table_shown t row lent
 
   -- "Prove that the sheet is accepted": it is read, and its table is accepted
-  pub sheet_read_law : read_of (sheet_shown t row lent) ≡ sheet.Sheet (damage_head t c)
+  pub sheet_read_law : read_of (sheet_shown t row lent) ≡ Ok (damage_head t c)
   unfolding damage_sheet
   sheet_read_law = ap read_of sheet_shown_law ∙ read_of_sheet (damage_head t c) (in_order 0 (damage_process t c)) (damage_conditions t c) held
 

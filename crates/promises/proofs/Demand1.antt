@@ -1,4 +1,6 @@
 -- DEMAND 1: every public call ends, takes any input, and refuses with number and place. Assumes nothing.
+use Rattle.sheet.specs.declared.Refusal.{Refusal}
+use Rattle.std.specs.Prelude.{Result, Ok}
 use Prim.Native.Nat.{ℕ}
 use mathlib.Core.Path.{◌≡◌, refl, sym, subst}
 use mathlib.Core.List.{List, [], ◌∷◌, map}
@@ -52,11 +54,8 @@ use Rattle.laws.specs.Checks.{Check}
 use Rattle.laws.specs.Listed.{written}
 use Rattle.sheet.specs.declared.Head.{Head}
 use Rattle.sheet.specs.Table.{Table, table_of}
-use Rattle.sheet.specs.Rules.{table_checks, refuse, refusal_of}
+use Rattle.sheet.specs.Rules.{table_checks, no, judged}
 use Rattle.sheet.specs.Sheet.{sheet_of, size_of, head_of}
-use Rattle.codec.specs.declared.SheetAnswer.TheVariants as sheet
-use Rattle.codec.specs.declared.SizeAnswer.{SizeAnswer}
-use Rattle.codec.specs.declared.SizeAnswer.TheVariants as size
 use Rattle.codec.specs.Answers.{read_of, part_of, write_checks, write_of, written_of}
 use Rattle.state.specs.declared.State.{State}
 use Rattle.state.specs.declared.StepKind.{StepKind}
@@ -67,11 +66,9 @@ use Rattle.compacted.specs.Compacted.{compacted_sheet}
 use Rattle.engine.specs.declared.Stepped.{Stepped}
 use Rattle.verdict.specs.Verdict.{verdict_of}
 use Rattle.damage.specs.Damage.{shown_sheet}
-use Rattle.sheet_engine.specs.declared.VerdictAnswer.TheVariants as verdict
 use Rattle.sheet_engine.specs.declared.Compacted.{Compacted}
-use Rattle.sheet_engine.specs.declared.StandingAnswer.{StandingAnswer}
-use Rattle.sheet_engine.specs.declared.StandingAnswer.TheVariants as stands
-use Rattle.sheet_engine.specs.Answers.{given, verdict_answer, start_checks, started, not_started, start_answer, acts_left, links_unset, list_checks, list_answer, list_buffer, standing_of, standing_checks, standing_answer, standing_buffer, waits_answer, waits_buffer, kind_answer, not_taken, step_answer, compact_checks, not_compacted, was_compacted, compact_answer, compact_buffer, damage_checks, damage_answer, damage_buffer}
+use Rattle.sheet_engine.specs.declared.Stands.{Stands}
+use Rattle.sheet_engine.specs.Answers.{verdict_answer, start_checks, start_answer, acts_left, links_unset, list_checks, list_answer, list_buffer, standing_of, standing_checks, standing_answer, standing_buffer, waits_answer, waits_buffer, kind_answer, not_taken, step_answer, compact_checks, not_compacted, was_compacted, compact_answer, compact_buffer, damage_checks, damage_answer, damage_buffer}
 use Rattle.sheet_engine.specs.Values.{row_checks, was_taken}
 use Rattle.promises.specs.Asks.{AsksNothing}
 use Rattle.promises.specs.Refused.{Answered, read_checks}
@@ -163,34 +160,34 @@ module _ {M : Type 1} {𝓤 : Ura M} (𝓛 : Logic 𝓤) (at_mem : Memory → SP
 
 -- "What breaks a rule is refused with the number and place in document 01, and the caller's buffers and state are then as before." For each call: either every check holds and the answer is the one asked for, or it is refused with the number of the first check that fails and its lowest place.
 -- `read_sheet`: the head
-pub read_sheet_answers : (s : List ℕ) → Answered sheet.Refused (sheet.Sheet (head_of s)) (read_checks s) (read_of s)
+pub read_sheet_answers : (s : List ℕ) → Answered no (Ok (head_of s)) (read_checks s) (read_of s)
 unfolding read_of
-read_sheet_answers s = sheet_answered sheet.Refused (sheet.Sheet (head_of s)) s
+read_sheet_answers s = sheet_answered no (Ok (head_of s)) s
 
 -- `settings_part`, `terms_part`, `conditions_part`: the body; a refused part is empty
 pub parts_answer : (s body : List ℕ) → Answered (λ number place. []) body (read_checks s) (part_of s body)
 unfolding part_of
 parts_answer s body = sheet_answered (λ number place. []) body s
 
--- `judge_table`: number and place, or 0 and 0
-pub judge_table_answers : (t : Table) → Answered refuse (refuse 0 0) (table_checks t) (refusal_of t)
-unfolding refusal_of
-judge_table_answers t = answered refuse (refuse 0 0) (table_checks t)
+-- `judge_table`: number and place, or nothing
+pub judge_table_answers : (t : Table) → Answered no (Ok (tt {0})) (table_checks t) (judged t)
+unfolding judged
+judge_table_answers t = answered no (Ok (tt {0})) (table_checks t)
 
 -- `write_sheet`: the size, and the sheet at the buffer's front; a refusal leaves the buffer as it was
-pub write_sheet_answers : (h : Head) (ts cs out : List ℕ) → Answered {A = SizeAnswer × List ℕ} (λ number place. (size.Refused number place, out)) (size.Size (size_of h), written (sheet_of h ts cs) out) (write_checks h ts cs (length out)) (write_of h ts cs (length out), written_of h ts cs out)
+pub write_sheet_answers : (h : Head) (ts cs out : List ℕ) → Answered {A = (Result ℕ Refusal) × List ℕ} (λ number place. (no number place, out)) (Ok (size_of h), written (sheet_of h ts cs) out) (write_checks h ts cs (length out)) (write_of h ts cs (length out), written_of h ts cs out)
 unfolding write_of written_of
-write_sheet_answers h ts cs out = both_answered size.Refused (size.Size (size_of h)) (λ number place. out) (written (sheet_of h ts cs) out) (write_checks h ts cs (length out))
+write_sheet_answers h ts cs out = both_answered no (Ok (size_of h)) (λ number place. out) (written (sheet_of h ts cs) out) (write_checks h ts cs (length out))
 
 -- `give_verdict`: pass or fail
-pub give_verdict_answers : (t : Table) → Answered verdict.Refused (given (verdict_of t)) (table_checks t) (verdict_answer t)
+pub give_verdict_answers : (t : Table) → Answered no (Ok (verdict_of t)) (table_checks t) (verdict_answer t)
 unfolding verdict_answer
-give_verdict_answers t = answered verdict.Refused (given (verdict_of t)) (table_checks t)
+give_verdict_answers t = answered no (Ok (verdict_of t)) (table_checks t)
 
 -- `start`: a fresh state; beside a refusal a state of zeros
-pub start_answers : (t : Table) (mode : ℕ) → Answered not_started (started 0 0 (start_of t mode)) (start_checks t mode) (start_answer t mode)
+pub start_answers : (t : Table) (mode : ℕ) → Answered no (Ok (start_of t mode)) (start_checks t mode) (start_answer t mode)
 unfolding start_answer
-start_answers t mode = answered not_started (started 0 0 (start_of t mode)) (start_checks t mode)
+start_answers t mode = answered no (Ok (start_of t mode)) (start_checks t mode)
 
 -- `acts_left` and `links_unset`: the number that the state holds. "No check concerns them": nothing is refused. By their own contracts, at every model.
 module _ {M : Type 1} {𝓤 : Ura M} (𝓛 : Logic 𝓤) (at_mem : Memory → SProp 𝓤) (run : Routine → Fun 𝓤) (κs : Lfts 0) where
@@ -201,19 +198,19 @@ module _ {M : Type 1} {𝓤 : Ura M} (𝓛 : Logic 𝓤) (at_mem : Memory → SP
   links_unset_answers a z r = fact_mono 𝓤 _ _ (λ told. told)
 
 -- `list_steps`: their number, and their rows at the buffer's front; a refusal leaves the buffer as it was
-pub list_steps_answers : (t : Table) (s : State) (out : List ℕ) → Answered {A = SizeAnswer × List ℕ} (λ number place. (size.Refused number place, out)) (size.Size (length (listed_of t s)), written (listed_of t s) out) (list_checks t s (length out)) (list_answer t s (length out), list_buffer t s out)
+pub list_steps_answers : (t : Table) (s : State) (out : List ℕ) → Answered {A = (Result ℕ Refusal) × List ℕ} (λ number place. (no number place, out)) (Ok (length (listed_of t s)), written (listed_of t s) out) (list_checks t s (length out)) (list_answer t s (length out), list_buffer t s out)
 unfolding list_answer list_buffer
-list_steps_answers t s out = both_answered size.Refused (size.Size (length (listed_of t s))) (λ number place. out) (written (listed_of t s) out) (list_checks t s (length out))
+list_steps_answers t s out = both_answered no (Ok (length (listed_of t s))) (λ number place. out) (written (listed_of t s) out) (list_checks t s (length out))
 
 -- `standing`: how the state stands, and the rows that it waits for at the buffer's front; a refusal leaves the buffer as it was
-pub standing_call_answers : (t : Table) (s : State) (out : List ℕ) → Answered {A = StandingAnswer × List ℕ} (λ number place. (stands.Refused number place, out)) (standing_of t s, written (waiting_of t s) out) (standing_checks t s (length out)) (standing_answer t s (length out), standing_buffer t s out)
+pub standing_call_answers : (t : Table) (s : State) (out : List ℕ) → Answered {A = (Result Stands Refusal) × List ℕ} (λ number place. (no number place, out)) (Ok (standing_of t s), written (waiting_of t s) out) (standing_checks t s (length out)) (standing_answer t s (length out), standing_buffer t s out)
 unfolding standing_answer standing_buffer
-standing_call_answers t s out = both_answered stands.Refused (standing_of t s) (λ number place. out) (written (waiting_of t s) out) (standing_checks t s (length out))
+standing_call_answers t s out = both_answered no (Ok (standing_of t s)) (λ number place. out) (written (waiting_of t s) out) (standing_checks t s (length out))
 
 -- `waits_for`: how many rows the state waits for, and what each waits for at the buffer's front; a refusal leaves the buffer as it was
-pub waits_for_answers : (t : Table) (s : State) (out : List ℕ) → Answered {A = SizeAnswer × List ℕ} (λ number place. (size.Refused number place, out)) (size.Size (length (waiting_of t s)), written (awaits_of t s) out) (standing_checks t s (length out)) (waits_answer t s (length out), waits_buffer t s out)
+pub waits_for_answers : (t : Table) (s : State) (out : List ℕ) → Answered {A = (Result ℕ Refusal) × List ℕ} (λ number place. (no number place, out)) (Ok (length (waiting_of t s)), written (awaits_of t s) out) (standing_checks t s (length out)) (waits_answer t s (length out), waits_buffer t s out)
 unfolding waits_answer waits_buffer
-waits_for_answers t s out = both_answered size.Refused (size.Size (length (waiting_of t s))) (λ number place. out) (written (awaits_of t s) out) (standing_checks t s (length out))
+waits_for_answers t s out = both_answered no (Ok (length (waiting_of t s))) (λ number place. out) (written (awaits_of t s) out) (standing_checks t s (length out))
 
 -- `compact`: the size of the compacted sheet and the state that goes with it, and the sheet at the buffer's front; a refusal hands the state back and leaves the buffer as it was
 pub compact_call_answers : (t : Table) (s : State) (out : List ℕ) → Answered {A = Compacted × List ℕ} (λ number place. (not_compacted s number place, out)) (was_compacted t s, written (compacted_sheet t s) out) (compact_checks t s (length out)) (compact_answer t s (length out), compact_buffer t s out)
@@ -221,9 +218,9 @@ unfolding compact_answer compact_buffer
 compact_call_answers t s out = both_answered (not_compacted s) (was_compacted t s) (λ number place. out) (written (compacted_sheet t s) out) (compact_checks t s (length out))
 
 -- `damage_sheet`: the size of the small sheet, and the sheet at the buffer's front; a refusal leaves the buffer as it was
-pub damage_sheet_answers : (t : Table) (row : ℕ) (out : List ℕ) → Answered {A = SizeAnswer × List ℕ} (λ number place. (size.Refused number place, out)) (size.Size (length (shown_sheet t row)), written (shown_sheet t row) out) (damage_checks t row (length out)) (damage_answer t row (length out), damage_buffer t row out)
+pub damage_sheet_answers : (t : Table) (row : ℕ) (out : List ℕ) → Answered {A = (Result ℕ Refusal) × List ℕ} (λ number place. (no number place, out)) (Ok (length (shown_sheet t row)), written (shown_sheet t row) out) (damage_checks t row (length out)) (damage_answer t row (length out), damage_buffer t row out)
 unfolding damage_answer damage_buffer
-damage_sheet_answers t row out = both_answered size.Refused (size.Size (length (shown_sheet t row))) (λ number place. out) (written (shown_sheet t row) out) (damage_checks t row (length out))
+damage_sheet_answers t row out = both_answered no (Ok (length (shown_sheet t row))) (λ number place. out) (written (shown_sheet t row) out) (damage_checks t row (length out))
 
 -- `step_kind`: the kind
 pub step_kind_answers : (t : Table) (s : State) (row : ℕ) → Answered kind.Refused (kind_at t s row) (row_checks t s row) (kind_answer t s row)

@@ -1,4 +1,6 @@
 -- DEMAND 2: what the calls answer follows document 01, and through it report R. Assumes nothing.
+use Rattle.sheet.specs.declared.Refusal.{Refusal}
+use Rattle.std.specs.Prelude.{Result, Ok}
 use Prim.Native.Nat.{ℕ, ◌*◌, ◌<◌, ◌≤◌}
 use mathlib.Core.Path.{◌≡◌, refl, sym, ◌∙◌, ap, subst}
 use mathlib.Core.Bool.{Bool, true, false}
@@ -43,14 +45,10 @@ use Rattle.steps.specs.Verdict.{SheetPasses}
 use Rattle.steps.proofs.Sources.{typable}
 use Rattle.sheet.specs.declared.Head.{Head}
 use Rattle.sheet.specs.Table.{Table, table_of, cut, row_at, condition_row_at, lazy_of, evaluation_of, eval_in, process_of}
-use Rattle.sheet.specs.Rules.{terms, tree, one_source, refuse, refusal_of}
+use Rattle.sheet.specs.Rules.{terms, tree, one_source, refuse, refusal_of, judged}
 use Rattle.sheet.specs.Accepted.{WellFormed, SingleSource, Narrow}
 use Rattle.sheet.specs.Sheet.{size_of, head_of, terms_of, conditions_of, sheet_size, contents, table_in}
 use Rattle.sheet.proofs.Accepted.{meets, well_formed, single_source, narrow_joins, rows_tree, one_source_law}
-use Rattle.sheet.proofs.Beyond.{same_refusal}
-use Rattle.codec.specs.declared.SheetAnswer.TheVariants as sheet
-use Rattle.codec.specs.declared.SizeAnswer.{SizeAnswer}
-use Rattle.codec.specs.declared.SizeAnswer.TheVariants as size
 use Rattle.codec.specs.Answers.{read_of, part_of, write_of, written_of}
 use Rattle.codec.proofs.Judged.{accepted_is, is_accepted}
 use Rattle.codec.proofs.RoundTrip.{read_then_written, written_front, written_then_read, size_told, terms_handed, conditions_handed}
@@ -69,8 +67,8 @@ use Rattle.moves.proofs.Decided.{row_marked, pick_decided}
 use Rattle.moves.proofs.Kept.{nothing_else as nothing-else-steps}
 use Rattle.engine.specs.declared.Stepped.{Stepped}
 use Rattle.engine.specs.ByValue.{taken_answer}
-use Rattle.sheet_engine.specs.declared.VerdictAnswer.{VerdictAnswer}
-use Rattle.sheet_engine.specs.declared.StandingAnswer.{StandingAnswer}
+use Rattle.verdict.specs.declared.Verdict.{Verdict}
+use Rattle.sheet_engine.specs.declared.Stands.{Stands}
 use Rattle.sheet_engine.specs.declared.Compacted.{Compacted}
 use Rattle.sheet_engine.specs.Answers.{verdict_answer, start_answer, call_checks, list_answer, list_buffer, standing_answer, standing_buffer, waits_answer, waits_buffer, kind_answer, not_taken, step_answer, compact_answer, compact_buffer, damage_answer, damage_buffer}
 use Rattle.sheet_engine.specs.Values.{verdict_values, FailsAt, size_values, standing_values, step_values}
@@ -96,7 +94,7 @@ use Rattle.sheet_engine.specs.contracts.take_step as take_step
 use Rattle.sheet_engine.proofs.take_step.Reads as take-step-reads
 use Rattle.sheet_engine.proofs.take_step.Kinds as take-step-kinds
 use Rattle.sheet_engine.specs.contracts.step_in_place as step-in-place
-use Rattle.sheet_engine.proofs.Beyond.{cut_write_answer, cut_write_buffer, cut_verdict_answer, cut_start_answer, cut_list_answer, cut_list_buffer, cut_standing_answer, cut_standing_buffer, cut_waits_answer, cut_waits_buffer, cut_kind_answer, cut_step_answer, cut_compact_answer, cut_compact_buffer, cut_damage_answer, cut_damage_buffer}
+use Rattle.sheet_engine.proofs.Beyond.{cut_judged, cut_write_answer, cut_write_buffer, cut_verdict_answer, cut_start_answer, cut_list_answer, cut_list_buffer, cut_standing_answer, cut_standing_buffer, cut_waits_answer, cut_waits_buffer, cut_kind_answer, cut_step_answer, cut_compact_answer, cut_compact_buffer, cut_damage_answer, cut_damage_buffer}
 use Rattle.sheet_engine.proofs.Promises.{pass_answered, fail_answered, fail_values}
 use Rattle.promises.specs.Calls.{Accepted, verdict_in, Passes, Fails, SameAnswers, fresh_in, link, listed_in, listed_rows, next, Allowed, Run, taken}
 use Rattle.promises.proofs.Calls.{formed, one_source_law as one-source-in, refusal, unrefused, kind_is, rows_are, row_listed, state_is, turned, listed_in_law, listed_any, ok_listed, list_unrefused, standing_unrefused, waits_unrefused, kind_unrefused, step_unrefused, compact_unrefused, accepted_listed, taken_keeps, run_short}
@@ -105,7 +103,7 @@ use Rattle.promises.proofs.Fresh.{fresh_accepted}
 use Rattle.promises.proofs.Verdict.{pass_told, fail_told, offending}
 
 -- THE SHEET. Its head is handed out exactly if 1 and 2 hold and the table of its parts is accepted.
-pub sheet_accepted : (s : List ℕ) (h : Head) → (read_of s ≡ sheet.Sheet h) ↔ (Holds (sheet_size (length s)) × Holds (contents s) × (refusal_of (table_in s) ≡ refuse 0 0) × (h ≡ head_of s))
+pub sheet_accepted : (s : List ℕ) (h : Head) → (read_of s ≡ Ok h) ↔ (Holds (sheet_size (length s)) × Holds (contents s) × (refusal_of (table_in s) ≡ refuse 0 0) × (h ≡ head_of s))
 sheet_accepted s h = (
   λ e. let r = accepted_is s h e in (r.size, r.sound, r.table, r.head),
   λ (one, two, table, head). is_accepted s h record { size = one; sound = two; table = table; head = head },
@@ -118,7 +116,7 @@ table_accepted t e = let g = meets t e in (well_formed t g, single_source t g, n
 -- "places beyond these are no part of it": every call answers alike for tables that agree on n term rows and k condition rows
 pub nothing_beyond : (t t' : Table) → cut t ≡ cut t' → SameAnswers t t'
 nothing_beyond t t' e = record {
-  judged = same_refusal t t' e;
+  judged = both judged cut_judged;
   verdict = both verdict_answer cut_verdict_answer;
   started = (λ mode. both (λ u. start_answer u mode) (λ u. cut_start_answer u mode));
   listed = (λ s lent. both (λ u. list_answer u s lent) (λ u. cut_list_answer u s lent));
@@ -143,11 +141,11 @@ pub nothing_beyond_written : (h : Head) (ts cs : List ℕ) → ((lent : ℕ) →
 nothing_beyond_written h ts cs = (cut_write_answer h ts cs, cut_write_buffer h ts cs)
 
 -- "Reading an accepted sheet and writing it again gives its bytes": a sheet of which `read_sheet` answers the head, by its contract, written to a buffer that is long enough
-module _ (κs : Lfts 1) (a : ArgsD read-sheet.signature κs) (z : AtExit (ended_of 1 read-sheet-kinds.ps read-sheet-kinds.r) κs) (h : Head) (read : read-sheet-reads.Post κs a (sheet.Sheet h) z) where
+module _ (κs : Lfts 1) (a : ArgsD read-sheet.signature κs) (z : AtExit (ended_of 1 read-sheet-kinds.ps read-sheet-kinds.r) κs) (h : Head) (read : read-sheet-reads.Post κs a (Ok h) z) where
   abbrev sheet_read : List ℕ
   sheet_read = a.0.now
 
-  pub read_then_write : (out : List ℕ) → length sheet_read ≤ length out → (write_of h (part_of sheet_read (terms_of sheet_read)) (part_of sheet_read (conditions_of sheet_read)) (length out) ≡ size.Size (length sheet_read)) × (written_of h (part_of sheet_read (terms_of sheet_read)) (part_of sheet_read (conditions_of sheet_read)) out ≡ sheet_read ++ drop (length sheet_read) out)
+  pub read_then_write : (out : List ℕ) → length sheet_read ≤ length out → (write_of h (part_of sheet_read (terms_of sheet_read)) (part_of sheet_read (conditions_of sheet_read)) (length out) ≡ Ok (length sheet_read)) × (written_of h (part_of sheet_read (terms_of sheet_read)) (part_of sheet_read (conditions_of sheet_read)) out ≡ sheet_read ++ drop (length sheet_read) out)
   read_then_write out room =
       let e = sym read.0 in
       rw (← part_whole sheet_read (terms_of sheet_read) (read_of sheet_read) refl h e, ← part_whole sheet_read (conditions_of sheet_read) (read_of sheet_read) refl h e) (read_then_written sheet_read h read.1 e out room)
@@ -158,7 +156,7 @@ module _ (h : Head) (ts cs : List ℕ) (accepted : (refusal_of (table_of h ts cs
   abbrev sheet_written : List ℕ
   sheet_written = take (size_of h) (written_of h ts cs out)
 
-  pub write_then_read : (write_of h ts cs (length out) ≡ size.Size (size_of h)) × (read_of sheet_written ≡ sheet.Sheet h) × (part_of sheet_written (terms_of sheet_written) ≡ take (4 * h.n) ts) × (part_of sheet_written (conditions_of sheet_written) ≡ take (4 * h.k) cs)
+  pub write_then_read : (write_of h ts cs (length out) ≡ Ok (size_of h)) × (read_of sheet_written ≡ Ok h) × (part_of sheet_written (terms_of sheet_written) ≡ take (4 * h.n) ts) × (part_of sheet_written (conditions_of sheet_written) ≡ take (4 * h.k) cs)
   write_then_read = (
     size_told h ts cs accepted out room,
     written_then_read h ts cs accepted out room,
@@ -217,20 +215,20 @@ fail_exactly t = (
 
 -- "A failure names the lowest JOIN row that fails, a number and a link": "the sum of value times 1, 3, 9 and so on", the smallest such number, and at it the lowest link
 pub fail_names : (t : Table) → Fails t → FailsAt t (verdict_in t).row (verdict_in t).number (verdict_in t).link
-fail_names t told = let (j, x, l, v) = (fail_told t).0 told in subst (λ (a : VerdictAnswer). FailsAt t (verdict_values a).row (verdict_values a).number (verdict_values a).link) (sym v) (fail_values t j x l v)
+fail_names t told = let (j, x, l, v) = (fail_told t).0 told in subst (λ (a : Result Verdict Refusal). FailsAt t (verdict_values a).row (verdict_values a).number (verdict_values a).link) (sym v) (fail_values t j x l v)
 
 -- STEPS. A call that answers without a refusal tells by its contract that table and state are accepted.
 module _ (κs : Lfts 3) (a : ArgsD list_steps.signature κs) (z : AtExit (ended_of 3 list-steps-kinds.ps list-steps-kinds.r) κs) (r : ResD list_steps.signature κs) (listed : list-steps-reads.Post κs a r z) where
   pub list_accepts : (size_values r).refusal ≡ 0 → Accepted (table_of a.1.0 a.1.1.0.now a.1.1.1.0.now) a.0
-  list_accepts e = list_unrefused _ a.0 listed.1 a.1.1.1.1.0.now (ap (λ (n : SizeAnswer). (size_values n).refusal) (sym listed.0.0) ∙ e)
+  list_accepts e = list_unrefused _ a.0 listed.1 a.1.1.1.1.0.now (ap (λ (n : Result ℕ Refusal). (size_values n).refusal) (sym listed.0.0) ∙ e)
 
 module _ (κs : Lfts 3) (a : ArgsD standing.signature κs) (z : AtExit (ended_of 3 standing-kinds.ps standing-kinds.r) κs) (r : ResD standing.signature κs) (stood : standing-reads.Post κs a r z) where
   pub standing_accepts : (standing_values r).refusal ≡ 0 → Accepted (table_of a.1.0 a.1.1.0.now a.1.1.1.0.now) a.0
-  standing_accepts e = standing_unrefused _ a.0 stood.1 a.1.1.1.1.0.now (ap (λ (n : StandingAnswer). (standing_values n).refusal) (sym stood.0.0) ∙ e)
+  standing_accepts e = standing_unrefused _ a.0 stood.1 a.1.1.1.1.0.now (ap (λ (n : Result Stands Refusal). (standing_values n).refusal) (sym stood.0.0) ∙ e)
 
 module _ (κs : Lfts 3) (a : ArgsD waits-for.signature κs) (z : AtExit (ended_of 3 waits-for-kinds.ps waits-for-kinds.r) κs) (r : ResD waits-for.signature κs) (told : waits-for-reads.Post κs a r z) where
   pub waits_accepts : (size_values r).refusal ≡ 0 → Accepted (table_of a.1.0 a.1.1.0.now a.1.1.1.0.now) a.0
-  waits_accepts e = waits_unrefused _ a.0 told.1 a.1.1.1.1.0.now (ap (λ (n : SizeAnswer). (size_values n).refusal) (sym told.0.0) ∙ e)
+  waits_accepts e = waits_unrefused _ a.0 told.1 a.1.1.1.1.0.now (ap (λ (n : Result ℕ Refusal). (size_values n).refusal) (sym told.0.0) ∙ e)
 
 module _ (κs : Lfts 2) (a : ArgsD step-kind.signature κs) (z : AtExit (ended_of 2 step-kind-kinds.ps step-kind-kinds.r) κs) (r : ResD step-kind.signature κs) (asked : step-kind-reads.Post κs a r z) where
   pub kind_accepts : (step_values r).refusal ≡ 0 → Accepted (table_of a.1.0 a.1.1.0.now a.1.1.1.0.now) a.0

@@ -1,4 +1,5 @@
 -- DEMAND 3, over runs of the calls: the rows are those that `list_steps` lists, the kinds and the states those that `take_step` answers. Assumes nothing.
+use Rattle.std.specs.Prelude.{Ok}
 use Prim.Native.Nat.{ℕ, ◌≤◌}
 use mathlib.Core.Path.{◌≡◌, refl, sym, ◌∙◌, ap}
 use mathlib.Core.Logic.{◌⊎◌}
@@ -8,8 +9,8 @@ use Rattle.state.specs.declared.State.{State}
 use Rattle.moves.specs.Steps.{start_of}
 use Rattle.moves.specs.Runs.{struck, rows_of}
 use Rattle.moves.proofs.Runs.{plain_run}
-use Rattle.sheet_engine.specs.declared.VerdictAnswer.TheVariants.{Pass}
-use Rattle.sheet_engine.specs.Answers.{verdict_answer, start_answer, started}
+use Rattle.verdict.specs.declared.Verdict.TheVariants.{Pass}
+use Rattle.sheet_engine.specs.Answers.{verdict_answer, start_answer}
 use Rattle.sheet_engine.proofs.Promises.{pass_demand_3}
 use Rattle.promises.specs.Calls.{Accepted, Passes, fresh_in, link, listed_steps, Run, taken, last}
 use Rattle.promises.proofs.Calls.{formed, run_keeps}
@@ -19,10 +20,10 @@ use Rattle.promises.proofs.Fresh.{fresh_state, is_started, begun, run_of, passed
 
 -- "Take a sheet that is accepted and whose verdict is "pass", started fresh with cleaning and without": mode 1 is with cleaning, mode 0 without.
 module _ (t : Table) (verdict : Passes t) where
-  pass : verdict_answer t ≡ Pass
+  pass : verdict_answer t ≡ Ok Pass
   pass = (pass_told t).0 verdict
 
-  pub both_start : (mode : ℕ) → mode ≤ 1 → start_answer t mode ≡ started 0 0 (start_of t mode)
+  pub both_start : (mode : ℕ) → mode ≤ 1 → start_answer t mode ≡ Ok (start_of t mode)
   both_start = is_started t (passed t pass)
 
   -- "Every run without cleaning is, row for row, also a run with it": kinds included; the two are such a pair

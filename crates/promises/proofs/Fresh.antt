@@ -1,4 +1,5 @@
 -- Runs of the calls from a fresh start, where the verdict is pass. Assumes nothing.
+use Rattle.std.specs.Prelude.{Ok}
 use Prim.Native.Nat.{ℕ, ◌≤◌}
 use mathlib.Core.Path.{◌≡◌, refl, sym, ◌∙◌, ap, subst, subst₂}
 use mathlib.Core.List.{List}
@@ -10,21 +11,20 @@ use Rattle.moves.specs.Steps.{start_of}
 use Rattle.moves.specs.Runs.{Taken, struck, rows_of, Alike}
 use Rattle.moves.specs.Runs.{Run as Steps, taken as steps_taken, last as last_state}
 use Rattle.moves.proofs.Fits.{fresh_sized, fresh_fits}
-use Rattle.sheet_engine.specs.declared.VerdictAnswer.TheVariants.{Pass}
-use Rattle.sheet_engine.specs.declared.Started.{Started}
-use Rattle.sheet_engine.specs.Answers.{verdict_answer, start_answer, started}
+use Rattle.verdict.specs.declared.Verdict.TheVariants.{Pass}
+use Rattle.sheet_engine.specs.Answers.{verdict_answer, start_answer}
 use Rattle.sheet_engine.proofs.Calls.{start_fresh}
 use Rattle.sheet_engine.proofs.Promises.{pass_answered, pass_demand_3}
-use Rattle.promises.specs.Calls.{Accepted, fresh_in, Run, taken, last}
+use Rattle.promises.specs.Calls.{Accepted, fresh_in, Run, taken, last, handed_out}
 use Rattle.promises.proofs.Calls.{to_steps, from_steps, run_keeps}
 
 -- an accepted table is started in either mode
 module _ (t : Table) (accepted : (refusal_of t).number ≡ 0) (mode : ℕ) (h : mode ≤ 1) where
-  pub is_started : start_answer t mode ≡ started 0 0 (start_of t mode)
-  is_started = sym (start_fresh t (refusal_of t) refl mode (start_of t mode) accepted h refl)
+  pub is_started : start_answer t mode ≡ Ok (start_of t mode)
+  is_started = sym (start_fresh t (refusal_of t) refl mode accepted h (start_of t mode) refl)
 
   pub is_fresh : fresh_in t mode ≡ start_of t mode
-  is_fresh = ap (λ (r : Started). r.state) is_started
+  is_fresh = ap handed_out is_started
 
   pub fresh_state : Accepted t (start_of t mode)
   fresh_state = record { table = accepted; mode = h; fits = fresh_fits t mode; sized = fresh_sized t mode }
@@ -39,7 +39,7 @@ module _ (t : Table) (accepted : (refusal_of t).number ≡ 0) (mode : ℕ) (h : 
   pub run_of : (R : Steps t (start_of t mode)) → (G : Run t (fresh_in t mode)) × (taken G ≡ steps_taken R) × (last G ≡ last_state R)
   run_of R = subst (λ (z : State). (G : Run t z) × (taken G ≡ steps_taken R) × (last G ≡ last_state R)) (sym is_fresh) (from_steps fresh_state R)
 
-module _ (t : Table) (pass : verdict_answer t ≡ Pass) where
+module _ (t : Table) (pass : verdict_answer t ≡ Ok Pass) where
   pub passed : (refusal_of t).number ≡ 0
   passed = ((pass_answered t).0 pass).0
 

@@ -1,4 +1,5 @@
 -- The runs of the compacted table over the calls, beside those from the old state; and the runs of tables for which the calls answer alike. Assumes nothing.
+use Rattle.std.specs.Prelude.{Result}
 use Prim.Native.Nat.{ℕ}
 use mathlib.Core.Path.{◌≡◌, refl, sym, ◌∙◌, ap, ap₂, subst, subst₂, fun_ext}
 use mathlib.Core.List.{List, [], ◌∷◌, map, Memᴰ}
@@ -10,7 +11,6 @@ use Rattle.sheet.specs.Table.{Table}
 use Rattle.sheet.specs.Rules.{refuse, refusal_of}
 use Rattle.sheet.proofs.Accepted.{Meets, meets}
 use Rattle.sheet.proofs.Beyond.{meets_accepted}
-use Rattle.codec.specs.declared.SizeAnswer.{SizeAnswer}
 use Rattle.state.specs.declared.State.{State}
 use Rattle.state.specs.declared.StepKind.{StepKind}
 use Rattle.moves.specs.Steps.{kind_at, listed_of}
@@ -93,7 +93,7 @@ module _ (t : Table) (s : State) (a : Accepted t s) where
 module _ (t t' : Table) (same : SameAnswers t t') where
   rows_alike : (s : State) (lent : List ℕ) → listed_in t s lent ≡ listed_in t' s lent
   unfolding listed_in
-  rows_alike s lent = ap₂ (λ (n : SizeAnswer) (out : List ℕ). take (count_of n) out) (same.listed s (length lent)) (same.buffer s lent)
+  rows_alike s lent = ap₂ (λ (n : Result ℕ Refusal) (out : List ℕ). take (count_of n) out) (same.listed s (length lent)) (same.buffer s lent)
 
   pub lists_alike : (s : State) → listed_steps t s ≡ listed_steps t' s
   lists_alike s = ap₂ with_kinds (fun_ext (same.kind s)) (rows_alike s (replicate 256 0))

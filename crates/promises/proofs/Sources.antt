@@ -1,4 +1,5 @@
 -- DOCUMENT 02, REQUEST 3: a join on a link nobody sets, over what the calls answer. "Demands 2 and 3 concern the sheets still accepted": they ask that a table is accepted, so they speak of those alone. Assumes nothing.
+use Rattle.std.specs.Prelude.{Ok}
 use Prim.Native.Nat.{ℕ, ◌<◌}
 use mathlib.Core.Path.{◌≡◌, refl, sym, ◌∙◌, ap, ap₂}
 use mathlib.Core.Bool.{true, false}
@@ -13,7 +14,7 @@ use Rattle.laws.proofs.Checks.{checked_map, all_hold}
 use Rattle.sheet.specs.declared.Head.{Head}
 use Rattle.sheet.specs.declared.Refusal.{Refusal}
 use Rattle.sheet.specs.Table.{Table, table_of}
-use Rattle.sheet.specs.Rules.{sourced, from8, table_checks, refuse, refusal_of}
+use Rattle.sheet.specs.Rules.{sourced, from8, table_checks, refuse, no, as_refusal, refusal_of}
 use Rattle.sheet.specs.Accepted.{Sourced, UnsourcedJoin}
 use Rattle.sheet.specs.Sheet.{sheet_size, contents, table_in}
 use Rattle.sheet.proofs.Accepted.{meets, sourced_joins, all_sourced, row_unsourced}
@@ -21,8 +22,7 @@ use Rattle.sheet.proofs.Refusals.{without}
 use Rattle.codec.specs.Answers.{read_of, write_of}
 use Rattle.state.specs.declared.State.{State}
 use Rattle.moves.specs.Steps.{start_of}
-use Rattle.sheet_engine.specs.declared.Started.{Started}
-use Rattle.sheet_engine.specs.Answers.{verdict_answer, start_checks, started, not_started, start_answer, list_answer, standing_answer, waits_answer, kind_answer, step_answer, compact_answer, damage_answer}
+use Rattle.sheet_engine.specs.Answers.{verdict_answer, start_checks, start_answer, list_answer, standing_answer, waits_answer, kind_answer, step_answer, compact_answer, damage_answer}
 use Rattle.sheet_engine.specs.Values.{VerdictValues, verdict_values, SheetValues, sheet_values, SizeValues, size_values, StandingValues, standing_values, StepValues, step_values, Answers}
 use Rattle.sheet_engine.proofs.Values.{all_held, read_answers, write_answers, verdict_answers, list_answers, standing_answers, waits_answers, kind_answers, step_answers, compact_answers, damage_answers}
 use Rattle.promises.specs.Sources.{up_to7, Thirteen}
@@ -92,10 +92,10 @@ module _ (t : Table) (place : ℕ) where
   unfolding without
   give_verdict_13 = of_call (λ (v : VerdictValues). v.refusal) (λ v. v.place) _ (verdict_answers t) (λ n p. (refl, refl)) refl
 
-  pub start_13 : (mode : ℕ) → (((start_answer t mode).number ≡ 13) × ((start_answer t mode).place ≡ place)) ↔ Thirteen t place
+  pub start_13 : (mode : ℕ) → (((as_refusal (start_answer t mode)).number ≡ 13) × ((as_refusal (start_answer t mode)).place ≡ place)) ↔ Thirteen t place
   unfolding start_answer without
   start_13 mode =
-      let e : refuse (start_answer t mode).number (start_answer t mode).place ≡ checked refuse (refuse 0 0) (start_checks t mode) = checked_map (λ (r : Started). refuse r.number r.place) not_started (started 0 0 (start_of t mode)) (start_checks t mode) in
+      let e : refuse (as_refusal (start_answer t mode)).number (as_refusal (start_answer t mode)).place ≡ checked refuse (refuse 0 0) (start_checks t mode) = checked_map as_refusal no (Ok (start_of t mode)) (start_checks t mode) in
       Iff.trans ((λ (n, p). sym e ∙ ap₂ refuse n p), λ z. (ap (λ (r : Refusal). r.number) (e ∙ z), ap (λ (r : Refusal). r.place) (e ∙ z))) (of_table _ refl)
 
   pub damage_sheet_13 : (row lent : ℕ) → (((size_values (damage_answer t row lent)).refusal ≡ 13) × ((size_values (damage_answer t row lent)).place ≡ place)) ↔ Thirteen t place

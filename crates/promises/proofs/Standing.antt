@@ -1,4 +1,5 @@
 -- DOCUMENT 02, REQUEST 1: finished, or waiting, over what `standing` and `list_steps` answer. Demand 3 does not equate these words, and nothing here does: cleaning may finish where plain waits. Assumes nothing.
+use Rattle.std.specs.Prelude.{Ok}
 use Prim.Native.Nat.{ℕ, ◌≤◌}
 use mathlib.Core.Path.{◌≡◌, refl, sym, ◌∙◌, ap, subst}
 use mathlib.Core.Bool.{true, false}
@@ -14,7 +15,7 @@ use Rattle.moves.specs.Standing.{join_in_front, joins_of, bare}
 use Rattle.moves.proofs.Standing.{no_step, no_join, some_join, waiting_cases, waiting_rows_law as rows-waiting, waiting_rising, finished_bare}
 use Rattle.sheet_engine.specs.Answers.{standing_of, standing_answer}
 use Rattle.sheet_engine.specs.Values.{StandingValues, standing_values}
-use Rattle.sheet_engine.proofs.Stands.{stands_rows, one_word, enabled_word_law, finished_word_law, waiting_word_law}
+use Rattle.sheet_engine.proofs.HowItStands.{stands_rows, one_word, enabled_word_law, finished_word_law, waiting_word_law}
 use Rattle.promises.specs.Calls.{Accepted, listed_rows, standing_in, Enabled, Finished, Waiting, waiting_in, waiting_rows, OneOf}
 use Rattle.promises.proofs.Calls.{formed, refusal, unrefused, rows_are, few_waiting, standing_any, waiting_are, waiting_in_law, waiting_any}
 
@@ -30,14 +31,14 @@ module _ (t : Table) (s : State) (accepted : Accepted t s) where
   free : (refusal t s).number ≡ 0
   free = unrefused t s accepted
 
-  values_are : standing_in t s ≡ standing_values (standing_of t s)
+  values_are : standing_in t s ≡ standing_values (Ok (standing_of t s))
   values_are = ap standing_values (standing_any t s free 256 (few_waiting t s free))
 
-  word_is : (standing_in t s).word ≡ (standing_values (standing_of t s)).word
+  word_is : (standing_in t s).word ≡ (standing_values (Ok (standing_of t s))).word
   word_is = ap (λ (v : StandingValues). v.word) values_are
 
   -- what is said of the word and the lists that `moves` defines is said of what the calls answer
-  told : (word : ℕ) (Said : List ℕ → Type 0) → ((standing_values (standing_of t s)).word ≡ word) ↔ Said (listed_of t s) → ((standing_in t s).word ≡ word) ↔ Said (listed_rows t s)
+  told : (word : ℕ) (Said : List ℕ → Type 0) → ((standing_values (Ok (standing_of t s))).word ≡ word) ↔ Said (listed_of t s) → ((standing_in t s).word ≡ word) ↔ Said (listed_rows t s)
   told word Said (to, back) = ((λ e. subst Said (sym (rows_are t s free)) (to (sym word_is ∙ e))), λ h. word_is ∙ back (subst Said (rows_are t s free) h))
 
   -- a state is enabled exactly if a step is listed

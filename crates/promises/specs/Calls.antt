@@ -1,15 +1,15 @@
 -- What a caller sees through the calls, by the definitions that their contracts cite: the steps that are listed in a state, how it stands, what it waits for, and runs of steps that are taken.
-use Rattle.std.specs.Prelude.{ℕ, ◌≤◌, ◌≡◌, true, ◌⊎◌, get_or, length, take, replicate}
+use Rattle.std.specs.Prelude.{ℕ, ◌≤◌, ◌≡◌, true, ◌⊎◌, Result, Ok, Err, get_or, length, take, replicate}
 use mathlib.Core.List.{List, [], ◌∷◌, map, Memᴰ}
 use Rattle.calculus.specs.Process.{Process}
 use Rattle.calculus.specs.Status.{Links}
 use Rattle.calculus.specs.Plain.{Label}
 use Rattle.calculus.specs.Rules.{Rule}
 use Rattle.sheet.specs.Table.{Table, eval_in}
-use Rattle.sheet.specs.Rules.{refusal_of}
-use Rattle.codec.specs.declared.SizeAnswer.{SizeAnswer}
-use Rattle.codec.specs.declared.SizeAnswer.TheVariants.{Size, Refused}
+use Rattle.sheet.specs.declared.Refusal.{Refusal}
+use Rattle.sheet.specs.Rules.{refusal_of, judged}
 use Rattle.state.specs.declared.State.{State}
+use Rattle.state.specs.State.{fresh_of}
 use Rattle.moves.specs.Steps.{mode_of, links_of, Sized, left_in}
 use Rattle.moves.specs.Fits.{Fits}
 use Rattle.moves.specs.Runs.{Taken}
@@ -35,7 +35,7 @@ Fails t = (verdict_in t).fails ≡ 1
 
 -- Every call answers alike for two tables.
 pub record SameAnswers (t t' : Table) : Type 0 where
-  pub judged : refusal_of t ≡ refusal_of t'
+  pub judged : judged t ≡ judged t'
   pub verdict : verdict_answer t ≡ verdict_answer t'
   pub started : (mode : ℕ) → start_answer t mode ≡ start_answer t' mode
   pub listed : (s : State) (lent : ℕ) → list_answer t s lent ≡ list_answer t' s lent
@@ -51,18 +51,22 @@ pub record SameAnswers (t t' : Table) : Type 0 where
   pub damage : (row lent : ℕ) → damage_answer t row lent ≡ damage_answer t' row lent
   pub shown : (row : ℕ) (lent : List ℕ) → damage_buffer t row lent ≡ damage_buffer t' row lent
 
--- "started fresh": the state that `start` hands out
+-- "started fresh": the state that `start` hands out; zeros where it refuses
+abbrev pub handed_out : Result State Refusal → State
+handed_out (Ok s) = s
+handed_out (Err e) = fresh_of 0
+
 abbrev pub fresh_in : Table → ℕ → State
-fresh_in t mode = (start_answer t mode).state
+fresh_in t mode = handed_out (start_answer t mode)
 
 -- a link as the state's byte: 0 unset, 1 false, 2 true
 abbrev pub link : State → ℕ → ℕ
 link s l = get_or s.links l 0
 
 -- What `list_steps` lists: of the lent buffer as many bytes as it answers, none where it refuses.
-abbrev pub count_of : SizeAnswer → ℕ
-count_of (Size count) = count
-count_of (Refused number place) = 0
+abbrev pub count_of : Result ℕ Refusal → ℕ
+count_of (Ok count) = count
+count_of (Err e) = 0
 
 unfoldable pub listed_in : Table → State → List ℕ → List ℕ
 listed_in t s lent = take (count_of (list_answer t s (length lent))) (list_buffer t s lent)

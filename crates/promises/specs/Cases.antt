@@ -1,20 +1,19 @@
 -- Document 01, "Examples on each side": the cases marked P, and after document 02 how sheet X stands, what is left of it, what it is when compacted, what its damage sheet is, and the steps of sheet Y in two orders, as one table. A row is a sheet in bytes, what is asked of it, and what the calls answer.
-use Rattle.std.specs.Prelude.{ℕ, ◌-◌, List, [], ◌∷◌, ◌++◌, take, replicate}
+use Rattle.std.specs.Prelude.{ℕ, ◌-◌, List, [], ◌∷◌, ◌++◌, Result, Ok, Err, take, replicate}
+use Rattle.sheet.specs.declared.Head.{Head}
+use Rattle.sheet.specs.declared.Refusal.{Refusal}
 use Rattle.sheet.specs.Table.{Table, table_of}
+use Rattle.sheet.specs.Rules.{no}
 use Rattle.sheet.specs.Sheet.{sheet_of, terms_of, conditions_of}
-use Rattle.codec.specs.declared.SheetAnswer.{SheetAnswer}
-use Rattle.codec.specs.declared.SheetAnswer.TheVariants as sheet
-use Rattle.codec.specs.declared.SizeAnswer.{SizeAnswer}
-use Rattle.codec.specs.declared.SizeAnswer.TheVariants.{Size, Refused}
 use Rattle.codec.specs.Answers.{read_of, part_of}
 use Rattle.state.specs.declared.State.{State}
 use Rattle.state.specs.declared.StepKind.{StepKind}
 use Rattle.state.specs.declared.StepKind.TheVariants.{Act, Set, Open, Clean}
 use Rattle.moves.specs.Runs.{Taken}
-use Rattle.sheet_engine.specs.declared.VerdictAnswer.{VerdictAnswer}
-use Rattle.sheet_engine.specs.declared.VerdictAnswer.TheVariants.{Pass, Fail}
-use Rattle.sheet_engine.specs.declared.StandingAnswer.{StandingAnswer}
-use Rattle.sheet_engine.specs.declared.StandingAnswer.TheVariants.{Enabled, Finished, Waiting}
+use Rattle.verdict.specs.declared.Verdict as declared_verdict
+use Rattle.verdict.specs.declared.Verdict.TheVariants.{Pass, Fail}
+use Rattle.sheet_engine.specs.declared.Stands as declared_stands
+use Rattle.sheet_engine.specs.declared.Stands.TheVariants.{Enabled, Finished, Waiting}
 use Rattle.sheet_engine.specs.Answers.{verdict_answer, acts_left, links_unset, list_answer, standing_answer, step_answer, damage_answer}
 use Rattle.promises.specs.Calls.{fresh_in, listed_steps, waiting_rows, awaited_bytes}
 use Rattle.promises.specs.Compacted.{sheet_made, state_made}
@@ -31,12 +30,12 @@ pub data Question : Type 0 where
 
 -- the answers of `take_step` on the way and of `list_steps`, the listed steps with their kinds, and the links of the sheet; or the answer of `standing`, with the rows waited for and, from `waits_for`, what each waits for; or the answers of `acts_left` and `links_unset`; or the sheet and the state that `compact` makes, of the state the links of the sheet and the two counts; or the answer of `damage_sheet`, with the sheet
 pub data Answer : Type 0 where
-  Verdict : VerdictAnswer → Answer
-  Seen : (took : List StepKind) (answer : SizeAnswer) (steps : List Taken) (links : List ℕ) → Answer
-  Stands : (answer : StandingAnswer) (rows links : List ℕ) → Answer
+  Verdict : Result declared_verdict.Verdict Refusal → Answer
+  Seen : (took : List StepKind) (answer : Result ℕ Refusal) (steps : List Taken) (links : List ℕ) → Answer
+  Stands : (answer : Result declared_stands.Stands Refusal) (rows links : List ℕ) → Answer
   Counts : (acts unset : ℕ) → Answer
   Made : (sheet links : List ℕ) (acts unset : ℕ) → Answer
-  Shown : (answer : SizeAnswer) (sheet : List ℕ) → Answer
+  Shown : (answer : Result ℕ Refusal) (sheet : List ℕ) → Answer
 
 pub record Case : Type 0 where
   pub sheet : List ℕ
@@ -44,9 +43,9 @@ pub record Case : Type 0 where
   pub answer : Answer
 
 -- the table that `read_sheet` and the part calls hand out; of a refused sheet a table without rows, which every call refuses
-abbrev pub table_from : SheetAnswer → List ℕ → List ℕ → Table
-table_from (sheet.Sheet h) ts cs = table_of h ts cs
-table_from (sheet.Refused number place) ts cs = table_of (record { evaluation = 0; m = 0; n = 0; k = 0 }) ts cs
+abbrev pub table_from : Result Head Refusal → List ℕ → List ℕ → Table
+table_from (Ok h) ts cs = table_of h ts cs
+table_from (Err e) ts cs = table_of (record { evaluation = 0; m = 0; n = 0; k = 0 }) ts cs
 
 unfoldable pub table_read : List ℕ → Table
 table_read s = table_from (read_of s) (part_of s (terms_of s)) (part_of s (conditions_of s))
@@ -154,21 +153,21 @@ of sheet question answer = record { sheet = sheet; question = question; answer =
 abbrev pub cases : List Case
 cases =
     -- "X fresh lists 2, 4": in both modes
-    of X (after 0 []) (Seen [] (Size 2) (at 2 (Act 10) ∷ at 4 (Set 0 1) ∷ []) (0 ∷ [])) ∷
-    of X (after 1 []) (Seen [] (Size 2) (at 2 (Act 10) ∷ at 4 (Set 0 1) ∷ []) (0 ∷ [])) ∷
+    of X (after 0 []) (Seen [] (Ok 2) (at 2 (Act 10) ∷ at 4 (Set 0 1) ∷ []) (0 ∷ [])) ∷
+    of X (after 1 []) (Seen [] (Ok 2) (at 2 (Act 10) ∷ at 4 (Set 0 1) ∷ []) (0 ∷ [])) ∷
     -- "plain, after 2, nothing", "cleaning, after 2, row 6"
-    of X (after 0 (2 ∷ [])) (Seen (Act 10 ∷ []) (Size 0) [] (0 ∷ [])) ∷
-    of X (after 1 (2 ∷ [])) (Seen (Act 10 ∷ []) (Size 1) (at 6 Open ∷ []) (1 ∷ [])) ∷
+    of X (after 0 (2 ∷ [])) (Seen (Act 10 ∷ []) (Ok 0) [] (0 ∷ [])) ∷
+    of X (after 1 (2 ∷ [])) (Seen (Act 10 ∷ []) (Ok 1) (at 6 Open ∷ []) (1 ∷ [])) ∷
     -- "cleaning, X after 4: link 0 true, row 6 listed as clean", "plain, after 4: nothing"
-    of X (after 1 (4 ∷ [])) (Seen (Set 0 1 ∷ []) (Size 1) (at 6 Clean ∷ []) (2 ∷ [])) ∷
-    of X (after 0 (4 ∷ [])) (Seen (Set 0 1 ∷ []) (Size 0) [] (2 ∷ [])) ∷
+    of X (after 1 (4 ∷ [])) (Seen (Set 0 1 ∷ []) (Ok 1) (at 6 Clean ∷ []) (2 ∷ [])) ∷
+    of X (after 0 (4 ∷ [])) (Seen (Set 0 1 ∷ []) (Ok 0) [] (2 ∷ [])) ∷
     -- document 02, requests 1 and 5: plain waits for row 6, after 2 for link 0, after 4 for none, since its condition is false
-    of X (standing 0 []) (Stands Enabled [] []) ∷
-    of X (standing 0 (2 ∷ [])) (Stands (Waiting 1) (6 ∷ []) (0 ∷ [])) ∷
-    of X (standing 0 (4 ∷ [])) (Stands (Waiting 1) (6 ∷ []) (255 ∷ [])) ∷
-    of X (standing 1 (2 ∷ 6 ∷ 7 ∷ [])) (Stands Finished [] []) ∷
+    of X (standing 0 []) (Stands (Ok Enabled) [] []) ∷
+    of X (standing 0 (2 ∷ [])) (Stands (Ok (Waiting 1)) (6 ∷ []) (0 ∷ [])) ∷
+    of X (standing 0 (4 ∷ [])) (Stands (Ok (Waiting 1)) (6 ∷ []) (255 ∷ [])) ∷
+    of X (standing 1 (2 ∷ 6 ∷ 7 ∷ [])) (Stands (Ok Finished) [] []) ∷
     -- "cleaning may finish where plain waits": 4, and then the cleaning step 6
-    of X (standing 1 (4 ∷ 6 ∷ [])) (Stands Finished [] []) ∷
+    of X (standing 1 (4 ∷ 6 ∷ [])) (Stands (Ok Finished) [] []) ∷
     -- request 6: the ACTs 10 and 12 are left, and link 0 is unset; the PICK takes a branch, with cleaning the link of the other becomes false, and the clean step takes ACT 12
     of X (counts 0 []) (Counts 2 1) ∷
     of X (counts 1 []) (Counts 2 1) ∷
@@ -179,41 +178,41 @@ cases =
     of X (counts 1 (4 ∷ 6 ∷ [])) (Counts 0 0) ∷
     of X (counts 1 (2 ∷ 6 ∷ 7 ∷ [])) (Counts 0 0) ∷
     -- request 7: rows 2 and 4 of Y lie on the two sides of the FLOW, and either may be taken first; each decides the PICK above, and link 1 becomes false. Across the PICK it is not so: after 6 neither is listed
-    of Y (after 1 []) (Seen [] (Size 3) (at 2 (Act 10) ∷ at 4 (Set 0 1) ∷ at 6 (Set 1 1) ∷ []) (0 ∷ 0 ∷ [])) ∷
-    of Y (after 1 (2 ∷ [])) (Seen (Act 10 ∷ []) (Size 1) (at 4 (Set 0 1) ∷ []) (0 ∷ 1 ∷ [])) ∷
-    of Y (after 1 (4 ∷ [])) (Seen (Set 0 1 ∷ []) (Size 1) (at 2 (Act 10) ∷ []) (2 ∷ 1 ∷ [])) ∷
-    of Y (after 1 (2 ∷ 4 ∷ [])) (Seen (Act 10 ∷ Set 0 1 ∷ []) (Size 0) [] (2 ∷ 1 ∷ [])) ∷
-    of Y (after 1 (4 ∷ 2 ∷ [])) (Seen (Set 0 1 ∷ Act 10 ∷ []) (Size 0) [] (2 ∷ 1 ∷ [])) ∷
-    of Y (after 1 (6 ∷ [])) (Seen (Set 1 1 ∷ []) (Size 0) [] (1 ∷ 2 ∷ [])) ∷
+    of Y (after 1 []) (Seen [] (Ok 3) (at 2 (Act 10) ∷ at 4 (Set 0 1) ∷ at 6 (Set 1 1) ∷ []) (0 ∷ 0 ∷ [])) ∷
+    of Y (after 1 (2 ∷ [])) (Seen (Act 10 ∷ []) (Ok 1) (at 4 (Set 0 1) ∷ []) (0 ∷ 1 ∷ [])) ∷
+    of Y (after 1 (4 ∷ [])) (Seen (Set 0 1 ∷ []) (Ok 1) (at 2 (Act 10) ∷ []) (2 ∷ 1 ∷ [])) ∷
+    of Y (after 1 (2 ∷ 4 ∷ [])) (Seen (Act 10 ∷ Set 0 1 ∷ []) (Ok 0) [] (2 ∷ 1 ∷ [])) ∷
+    of Y (after 1 (4 ∷ 2 ∷ [])) (Seen (Set 0 1 ∷ Act 10 ∷ []) (Ok 0) [] (2 ∷ 1 ∷ [])) ∷
+    of Y (after 1 (6 ∷ [])) (Seen (Set 1 1 ∷ []) (Ok 0) [] (1 ∷ 2 ∷ [])) ∷
     -- request 8: after 2, of the PICK nothing is left but NIL, and the JOIN reads link 0, whose OUT row is spent; after 4 and the clean step the JOIN is NIL, and its ACT 12 is gone; a sheet that nobody has run keeps its rows
     of X (compacting 1 (2 ∷ [])) (Made (compacted_x 5 ((5 ∷ 1 ∷ 2 ∷ 0 ∷ []) ++ (0 ∷ 0 ∷ 0 ∷ 0 ∷ []) ++ (3 ∷ 2 ∷ 3 ∷ 0 ∷ []) ++ (1 ∷ 12 ∷ 4 ∷ 0 ∷ []) ++ (0 ∷ 0 ∷ 0 ∷ 0 ∷ []))) (1 ∷ []) 1 0) ∷
     of X (compacting 1 (4 ∷ 6 ∷ [])) (Made (compacted_x 3 ((5 ∷ 1 ∷ 2 ∷ 0 ∷ []) ++ (0 ∷ 0 ∷ 0 ∷ 0 ∷ []) ++ (0 ∷ 0 ∷ 0 ∷ 0 ∷ []))) (2 ∷ []) 0 0) ∷
     of X (compacting 0 []) (Made (compacted_x 9 (terms_of X)) (0 ∷ []) 2 1) ∷
     -- request 9: row 6 of X fails, and has a damage sheet, on which cleaning does activities 1 and 2, and plain waits after 1; row 7 is no JOIN, and no row is 300
-    of X (damage 6) (Shown (Size 58) damage_x) ∷
-    of damage_x (after 1 (1 ∷ 2 ∷ 3 ∷ [])) (Seen (Act 1 ∷ Open ∷ Act 2 ∷ []) (Size 0) [] (1 ∷ [])) ∷
-    of damage_x (standing 0 (1 ∷ [])) (Stands (Waiting 1) (2 ∷ []) (0 ∷ [])) ∷
-    of X (damage 7) (Shown (Refused 15 7) []) ∷
-    of X (damage 300) (Shown (Refused 15 300) []) ∷
+    of X (damage 6) (Shown (Ok 58) damage_x) ∷
+    of damage_x (after 1 (1 ∷ 2 ∷ 3 ∷ [])) (Seen (Act 1 ∷ Open ∷ Act 2 ∷ []) (Ok 0) [] (1 ∷ [])) ∷
+    of damage_x (standing 0 (1 ∷ [])) (Stands (Ok (Waiting 1)) (2 ∷ []) (0 ∷ [])) ∷
+    of X (damage 7) (Shown (no 15 7) []) ∷
+    of X (damage 300) (Shown (no 15 300) []) ∷
     -- ... strict, number 5 has link 0 true and link 1 false; lazy, (link 0 = link 1) or link 2 fails at 4, where link 2 is unset, so that a FLOW stands at the root
-    of (join_on 0 3 (LINK 0 ++ LINK 1 ++ OR 0 1)) (damage 2) (Shown (Size 62) damage_or) ∷
-    of three_links (damage 3) (Shown (Size 90) damage_three) ∷
+    of (join_on 0 3 (LINK 0 ++ LINK 1 ++ OR 0 1)) (damage 2) (Shown (Ok 62) damage_or) ∷
+    of three_links (damage 3) (Shown (Ok 90) damage_three) ∷
     -- ... a FALSE row that is there already is not shared; and of two JOINs that fail the verdict names row 2, and row 3 has a damage sheet of its own
-    of (join_on 1 5 (FALSE ++ LINK 0 ++ EQ 0 1 ++ LINK 1 ++ OR 2 3)) (damage 2) (Shown (Size 86) damage_false) ∷
-    of two_joins verdict (Verdict (Fail 2 1 0)) ∷
-    of two_joins (damage 3) (Shown (Size 58) damage_second) ∷
+    of (join_on 1 5 (FALSE ++ LINK 0 ++ EQ 0 1 ++ LINK 1 ++ OR 2 3)) (damage 2) (Shown (Ok 86) damage_false) ∷
+    of two_joins verdict (Verdict (Ok (Fail 2 1 0))) ∷
+    of two_joins (damage 3) (Shown (Ok 58) damage_second) ∷
     -- "lazy OR of links 0 and 1 passes", "strict, it fails with number 5, link 1"
-    of (join_on 1 3 (LINK 0 ++ LINK 1 ++ OR 0 1)) verdict (Verdict Pass) ∷
-    of (join_on 0 3 (LINK 0 ++ LINK 1 ++ OR 0 1)) verdict (Verdict (Fail 2 5 1)) ∷
+    of (join_on 1 3 (LINK 0 ++ LINK 1 ++ OR 0 1)) verdict (Verdict (Ok Pass)) ∷
+    of (join_on 0 3 (LINK 0 ++ LINK 1 ++ OR 0 1)) verdict (Verdict (Ok (Fail 2 5 1))) ∷
     -- "lazy EQ of links 0 and 1 fails with 4, link 0"
-    of (join_on 1 3 (LINK 0 ++ LINK 1 ++ EQ 0 1)) verdict (Verdict (Fail 2 4 0)) ∷
+    of (join_on 1 3 (LINK 0 ++ LINK 1 ++ EQ 0 1)) verdict (Verdict (Ok (Fail 2 4 0))) ∷
     -- "NE of link 0 with itself passes"
-    of (join_on 0 2 (LINK 0 ++ NE 0 0)) verdict (Verdict Pass) ∷
-    of (join_on 1 2 (LINK 0 ++ NE 0 0)) verdict (Verdict Pass) ∷
+    of (join_on 0 2 (LINK 0 ++ NE 0 0)) verdict (Verdict (Ok Pass)) ∷
+    of (join_on 1 2 (LINK 0 ++ NE 0 0)) verdict (Verdict (Ok Pass)) ∷
     -- "EQ of TRUE and link 0 passes"
-    of (join_on 0 3 (TRUE ++ LINK 0 ++ EQ 0 1)) verdict (Verdict Pass) ∷
-    of (join_on 1 3 (TRUE ++ LINK 0 ++ EQ 0 1)) verdict (Verdict Pass) ∷
+    of (join_on 0 3 (TRUE ++ LINK 0 ++ EQ 0 1)) verdict (Verdict (Ok Pass)) ∷
+    of (join_on 1 3 (TRUE ++ LINK 0 ++ EQ 0 1)) verdict (Verdict (Ok Pass)) ∷
     -- "EQ of FALSE and link 0 fails with 1, link 0"
-    of (join_on 0 3 (FALSE ++ LINK 0 ++ EQ 0 1)) verdict (Verdict (Fail 2 1 0)) ∷
-    of (join_on 1 3 (FALSE ++ LINK 0 ++ EQ 0 1)) verdict (Verdict (Fail 2 1 0)) ∷
+    of (join_on 0 3 (FALSE ++ LINK 0 ++ EQ 0 1)) verdict (Verdict (Ok (Fail 2 1 0))) ∷
+    of (join_on 1 3 (FALSE ++ LINK 0 ++ EQ 0 1)) verdict (Verdict (Ok (Fail 2 1 0))) ∷
     []

@@ -2,6 +2,7 @@
 use Prim.Native.Nat.{ℕ, ◌*◌}
 use mathlib.Core.Path.{◌≡◌, refl, sym, ◌∙◌, ap, ap₂}
 use mathlib.Core.Bool.{true, false}
+use Rattle.std.specs.Prelude.{Result, Ok}
 use mathlib.Core.List.{List, [], ◌∷◌, ◌++◌}
 use mathlib.Core.Logic.{⊎_elim}
 use native.Mathlib.Omega.{arith}
@@ -14,15 +15,13 @@ use Rattle.laws.proofs.Tests.{cases}
 use Rattle.sheet.specs.declared.Refusal.{Refusal}
 use Rattle.sheet.specs.declared.Head.{Head}
 use Rattle.sheet.specs.Table.{Table, table_of, cut}
-use Rattle.sheet.specs.Rules.{table_checks, refuse, refusal_of}
+use Rattle.sheet.specs.Rules.{table_checks, refuse, no, judged, refusal_of}
 use Rattle.sheet.specs.Sheet.{front, sheet_of, size_of, room}
 use Rattle.sheet.specs.Accepted.{WellFormed}
 use Rattle.sheet.proofs.Accepted.{meets, well_formed}
 use Rattle.sheet.proofs.Refusals.{one_place_fails, one_place_holds}
 use Rattle.sheet.proofs.Beyond.{cut_checked}
 use Rattle.codec.specs.Answers.{write_checks, write_of, written_of}
-use Rattle.codec.specs.declared.SizeAnswer.{SizeAnswer}
-use Rattle.codec.specs.declared.SizeAnswer.TheVariants as size
 use Rattle.state.specs.declared.State.{State}
 use Rattle.state.specs.declared.StepKind.TheVariants as kind
 use Rattle.state.specs.State.{fresh_of}
@@ -35,34 +34,36 @@ use Rattle.verdict.specs.Verdict.{verdict_of}
 use Rattle.verdict.proofs.Beyond.{cut_verdict}
 use Rattle.damage.specs.Damage.{shown_sheet, showable, show_check, show_checks}
 use Rattle.damage.proofs.Beyond.{cut_shows, cut_shown}
-use Rattle.sheet_engine.specs.declared.StandingAnswer.TheVariants as standing
-use Rattle.sheet_engine.specs.declared.VerdictAnswer.TheVariants.{Refused}
-use Rattle.sheet_engine.specs.Answers.{given, verdict_answer, started, not_started, start_checks, start_answer, call_checks, list_answer, list_buffer, standing_by, standing_of, standing_answer, standing_buffer, waits_answer, waits_buffer, kind_answer, not_taken, step_answer, not_compacted, compact_answer, compact_buffer, damage_checks, damage_answer, damage_buffer}
+use Rattle.sheet_engine.specs.Answers.{verdict_answer, start_checks, start_answer, call_checks, list_answer, list_buffer, standing_by, standing_of, standing_answer, standing_buffer, waits_answer, waits_buffer, kind_answer, not_taken, step_answer, not_compacted, compact_answer, compact_buffer, damage_checks, damage_answer, damage_buffer}
 
 formed : (t : Table) → AllHold (table_checks t) → WellFormed t
 unfolding refusal_of
 formed t h = well_formed t (meets t (ap (λ (r : Refusal). r.number) (all_hold refuse (refuse 0 0) (table_checks t) h)))
 
+pub cut_judged : (t : Table) → judged t ≡ judged (cut t)
+unfolding judged
+cut_judged t = cut_checked no (Ok (tt {0})) t
+
 pub cut_verdict_answer : (t : Table) → verdict_answer t ≡ verdict_answer (cut t)
 unfolding verdict_answer
-cut_verdict_answer t = checked_good Refused (given (verdict_of t)) (given (verdict_of (cut t))) (table_checks t) (λ h. ap given (cut_verdict t (formed t h))) ∙ cut_checked Refused (given (verdict_of (cut t))) t
+cut_verdict_answer t = checked_good no (Ok (verdict_of t)) (Ok (verdict_of (cut t))) (table_checks t) (λ h. ap Ok (cut_verdict t (formed t h))) ∙ cut_checked no (Ok (verdict_of (cut t))) t
 
 pub cut_start_answer : (t : Table) (mode : ℕ) → start_answer t mode ≡ start_answer (cut t) mode
 unfolding start_answer
 cut_start_answer t mode =
-    ap (λ (z : State). checked not_started (started 0 0 z) (start_checks t mode)) (cut_counted t (fresh_of mode)) ∙
-    (checked_append not_started (started 0 0 (start_of (cut t) mode)) (table_checks t) (mode_check mode ∷ []) ∙
-    (cut_checked not_started (checked not_started (started 0 0 (start_of (cut t) mode)) (mode_check mode ∷ [])) t ∙
-    sym (checked_append not_started (started 0 0 (start_of (cut t) mode)) (table_checks (cut t)) (mode_check mode ∷ []))))
+    ap (λ (z : State). checked no (Ok z) (start_checks t mode)) (cut_counted t (fresh_of mode)) ∙
+    (checked_append no (Ok (start_of (cut t) mode)) (table_checks t) (mode_check mode ∷ []) ∙
+    (cut_checked no (checked no (Ok (start_of (cut t) mode)) (mode_check mode ∷ [])) t ∙
+    sym (checked_append no (Ok (start_of (cut t) mode)) (table_checks (cut t)) (mode_check mode ∷ []))))
 
 -- writing
 module _ (h : Head) (ts cs : List ℕ) where
   pub cut_write_answer : (lent : ℕ) → write_of h ts cs lent ≡ write_of h (take (4 * h.n) ts) (take (4 * h.k) cs) lent
   unfolding write_of
   cut_write_answer lent =
-      checked_append size.Refused (size.Size (size_of h)) (table_checks (table_of h ts cs)) (room (size_of h) lent ∷ []) ∙
-      (cut_checked size.Refused (checked size.Refused (size.Size (size_of h)) (room (size_of h) lent ∷ [])) (table_of h ts cs) ∙
-      sym (checked_append size.Refused (size.Size (size_of h)) (table_checks (cut (table_of h ts cs))) (room (size_of h) lent ∷ [])))
+      checked_append no (Ok (size_of h)) (table_checks (table_of h ts cs)) (room (size_of h) lent ∷ []) ∙
+      (cut_checked no (checked no (Ok (size_of h)) (room (size_of h) lent ∷ [])) (table_of h ts cs) ∙
+      sym (checked_append no (Ok (size_of h)) (table_checks (cut (table_of h ts cs))) (room (size_of h) lent ∷ [])))
 
   sheet_cut : sheet_of h ts cs ≡ sheet_of h (take (4 * h.n) ts) (take (4 * h.k) cs)
   unfolding sheet_of
@@ -104,7 +105,7 @@ module _ {A : Type 0} (answer : ℕ → ℕ → A) (good : List ℕ → A) (t : 
 module _ (t : Table) (row : ℕ) where
   pub cut_damage_answer : (lent : ℕ) → damage_answer t row lent ≡ damage_answer (cut t) row lent
   unfolding damage_answer
-  cut_damage_answer lent = damage_cut size.Refused (λ l. size.Size (length l)) t row lent
+  cut_damage_answer lent = damage_cut no (λ l. Ok (length l)) t row lent
 
   pub cut_damage_buffer : (lent : List ℕ) → damage_buffer t row lent ≡ damage_buffer (cut t) row lent
   unfolding damage_buffer
@@ -131,12 +132,12 @@ module _ {A : Type 0} (answer : ℕ → ℕ → A) (good good' : A) (xs xs' : Li
       sym (checked_append answer good' (call_checks (cut t) s) (room (length xs') lent ∷ [])))
 
 module _ (t : Table) (s : State) where
-  abbrev sized : List ℕ → SizeAnswer
-  sized l = size.Size (length l)
+  abbrev sized : List ℕ → Result ℕ Refusal
+  sized l = Ok (length l)
 
   pub cut_list_answer : (lent : ℕ) → list_answer t s lent ≡ list_answer (cut t) s lent
   unfolding list_answer
-  cut_list_answer lent = rows_cut size.Refused _ _ _ _ t s (λ w. (ap sized (cut_listed t w s), cut_listed t w s)) lent
+  cut_list_answer lent = rows_cut no _ _ _ _ t s (λ w. (ap sized (cut_listed t w s), cut_listed t w s)) lent
 
   pub cut_list_buffer : (lent : List ℕ) → list_buffer t s lent ≡ list_buffer (cut t) s lent
   unfolding list_buffer
@@ -144,7 +145,7 @@ module _ (t : Table) (s : State) where
 
   pub cut_standing_answer : (lent : ℕ) → standing_answer t s lent ≡ standing_answer (cut t) s lent
   unfolding standing_answer standing_of
-  cut_standing_answer lent = rows_cut standing.Refused _ _ _ _ t s (λ w. (ap₂ standing_by (cut_listed t w s) (cut_joins t w s), cut_waiting t w s)) lent
+  cut_standing_answer lent = rows_cut no _ _ _ _ t s (λ w. (ap₂ (λ (a b : List ℕ). Ok (standing_by a b)) (cut_listed t w s) (cut_joins t w s), cut_waiting t w s)) lent
 
   pub cut_standing_buffer : (lent : List ℕ) → standing_buffer t s lent ≡ standing_buffer (cut t) s lent
   unfolding standing_buffer
@@ -152,7 +153,7 @@ module _ (t : Table) (s : State) where
 
   pub cut_waits_answer : (lent : ℕ) → waits_answer t s lent ≡ waits_answer (cut t) s lent
   unfolding waits_answer
-  cut_waits_answer lent = rows_cut size.Refused _ _ _ _ t s (λ w. (ap sized (cut_waiting t w s), cut_waiting t w s)) lent
+  cut_waits_answer lent = rows_cut no _ _ _ _ t s (λ w. (ap sized (cut_waiting t w s), cut_waiting t w s)) lent
 
   pub cut_waits_buffer : (lent : List ℕ) → waits_buffer t s lent ≡ waits_buffer (cut t) s lent
   unfolding waits_buffer

@@ -2,6 +2,6 @@ pub mod Calls
 pub mod Promises
 pub mod Unique
 pub mod Steps
-pub mod Stands
+pub mod HowItStands
 pub mod Values
 pub mod Beyond

@@ -4,6 +4,7 @@ use mathlib.Core.Path.{◌≡◌, refl, sym, ◌∙◌, ap}
 use mathlib.Core.Bool.{Bool, true, false, cond, not, true≢false}
 use mathlib.Core.List.{List, [], ◌∷◌, ◌++◌}
 use mathlib.Core.Option.{Option, none, some}
+use Rattle.std.specs.Prelude.{Result, Ok, Err}
 use mathlib.Core.Logic.{⊎_elim, by_cases}
 use native.Mathlib.Omega.{arith}
 use native.Mathlib.Decide.{ℕ_discrete}
@@ -18,13 +19,11 @@ use Rattle.laws.proofs.Checks.{checked_append}
 use Rattle.calculus.specs.Places.{Turn}
 use Rattle.sheet.specs.declared.Refusal.{Refusal}
 use Rattle.sheet.specs.Table.{Table}
-use Rattle.sheet.specs.Rules.{table_checks, refuse, refusal_of}
+use Rattle.sheet.specs.Rules.{table_checks, refuse, no, judged, refusal_of}
 use Rattle.sheet.specs.Sheet.{room}
 use Rattle.sheet.specs.Accepted.{WellFormed}
 use Rattle.sheet.proofs.Accepted.{meets, well_formed}
-use Rattle.sheet.proofs.Refusals.{without, refused_by, accepted_by, table_refused_first, table_accepted_first, one_place_fails, one_place_holds}
-use Rattle.codec.specs.declared.SizeAnswer.{SizeAnswer}
-use Rattle.codec.specs.declared.SizeAnswer.TheVariants as size
+use Rattle.sheet.proofs.Refusals.{told_refused, told_accepted, judged_refused, judged_accepted, without, refused_by, accepted_by, table_refused_first, table_accepted_first, one_place_fails, one_place_holds}
 use Rattle.state.specs.declared.State.{State}
 use Rattle.state.specs.declared.StepKind.{StepKind}
 use Rattle.state.specs.declared.StepKind.TheVariants as kind
@@ -41,8 +40,7 @@ use Rattle.engine.specs.declared.Stepped.{Stepped}
 use Rattle.engine.specs.ByValue.{taken_answer}
 use Rattle.engine.proofs.Known.{kind_step, answer_refused}
 use Rattle.sheet_engine.specs.declared.Compacted.{Compacted}
-use Rattle.sheet_engine.specs.declared.StandingAnswer.{StandingAnswer}
-use Rattle.sheet_engine.specs.declared.StandingAnswer.TheVariants as standing
+use Rattle.sheet_engine.specs.declared.Stands.{Stands}
 use Rattle.sheet_engine.specs.Answers.{call_checks, list_answer, list_buffer, standing_of, standing_answer, standing_buffer, waits_answer, waits_buffer, kind_answer, not_taken, step_answer, not_compacted, was_compacted, compact_answer, compact_buffer}
 use Rattle.sheet_engine.specs.Values.{row_check, row_checks, was_taken}
 
@@ -57,12 +55,27 @@ first_accepted (c ∷ cs) ds n e = at (ltb (place_of c) c.upto) (first_accepted 
     at false ih e = ih e
 
 -- the table's refusal, or the state's
-module _ (t : Table) (s : State) (r : Refusal) (told : r ≡ refusal_of t) where
-  pub table_first : (r.number ≡ 0 → ⊥) → refuse r.number r.place ≡ checked refuse (refuse 0 0) (call_checks t s)
-  table_first h = table_refused_first refuse (refuse 0 0) t (mode_check s.mode ∷ fit_checks t s) r told h
+module _ (t : Table) (s : State) where
+  pub table_first : (r : Refusal) → judged t ≡ Err r → Err r ≡ checked no (Ok (tt {0})) (call_checks t s)
+  table_first r e = let d = judged_refused t r e in table_refused_first no (Ok tt) t (mode_check s.mode ∷ fit_checks t s) r d.0 d.1
 
-  pub state_then : r.number ≡ 0 → (f : Refusal) → f ≡ checked refuse (refuse 0 0) (state_checks t.m t.n t.terms s) → f ≡ checked refuse (refuse 0 0) (call_checks t s)
-  state_then e f g = g ∙ ap (checked refuse (refuse 0 0)) (state_checks_law t s) ∙ table_accepted_first refuse (refuse 0 0) t (mode_check s.mode ∷ fit_checks t s) r told e
+  pub state_then : (u : Unit {0}) → judged t ≡ Ok u → (f : Result (Unit {0}) Refusal) → f ≡ checked no (Ok tt) (state_checks t.m t.n t.terms s) → f ≡ checked no (Ok tt) (call_checks t s)
+  state_then u e f g = g ∙ ap (checked no (Ok tt)) (state_checks_law t s) ∙ table_accepted_first no (Ok tt) t (mode_check s.mode ∷ fit_checks t s) (refusal_of t) refl (judged_accepted t u e)
+
+  pub call_refused : (r : Refusal) → checked no (Ok (tt {0})) (call_checks t s) ≡ Err r → (r ≡ checked refuse (refuse 0 0) (call_checks t s)) × (r.number ≡ 0 → ⊥)
+  unfolding without
+  call_refused r e = told_refused tt (call_checks t s) refl r e
+
+  pub call_accepted : (u : Unit {0}) → checked no (Ok (tt {0})) (call_checks t s) ≡ Ok u → (checked refuse (refuse 0 0) (call_checks t s)).number ≡ 0
+  call_accepted u e = told_accepted tt (call_checks t s) u e
+
+-- ... told by number and place
+module _ (t : Table) (s : State) where
+  pub refusal_first : ((refusal_of t).number ≡ 0 → ⊥) → refuse (refusal_of t).number (refusal_of t).place ≡ checked refuse (refuse 0 0) (call_checks t s)
+  refusal_first h = table_refused_first refuse (refuse 0 0) t (mode_check s.mode ∷ fit_checks t s) (refusal_of t) refl h
+
+  pub refusal_then : (refusal_of t).number ≡ 0 → checked refuse (refuse 0 0) (state_checks t.m t.n t.terms s) ≡ checked refuse (refuse 0 0) (call_checks t s)
+  refusal_then e = ap (checked refuse (refuse 0 0)) (state_checks_law t s) ∙ table_accepted_first refuse (refuse 0 0) t (mode_check s.mode ∷ fit_checks t s) (refusal_of t) refl e
 
 -- what the call's refusal gives
 module _ (t : Table) (s : State) (r : Refusal) (told : r ≡ checked refuse (refuse 0 0) (call_checks t s)) where
@@ -123,67 +136,67 @@ module _ (t : Table) (s : State) (r : Refusal) (told : r ≡ checked refuse (ref
 
   -- ... and their number is the answer
   module _ (xs lent : List ℕ) where
-    abbrev Sizes : SizeAnswer → List ℕ → Type 0
-    Sizes = Told xs lent size.Refused (size.Size (length xs))
+    abbrev Sizes : Result ℕ Refusal → List ℕ → Type 0
+    Sizes = Told xs lent no (Ok (length xs))
 
-    size_refused : (r.number ≡ 0 → ⊥) → Sizes (size.Refused r.number r.place) lent
-    size_refused h = rows_refused xs lent size.Refused (size.Size (length xs)) h
+    size_refused : (r.number ≡ 0 → ⊥) → Sizes (Err r) lent
+    size_refused h = rows_refused xs lent no (Ok (length xs)) h
 
     module _ (out : List ℕ) (n : ℕ) (e : r.number ≡ 0) (f : n ≡ length xs) (g : out ≡ written xs lent) where
-      size_short : length lent < n → Sizes (size.Refused 12 n) out
-      size_short h = rw f (rows_short xs lent size.Refused (size.Size (length xs)) e out g (omega arith))
+      size_short : length lent < n → Sizes (no 12 n) out
+      size_short h = rw f (rows_short xs lent no (Ok (length xs)) e out g (omega arith))
 
-      size_given : n ≤ length lent → Sizes (size.Size n) out
-      size_given h = rw f (rows_given xs lent size.Refused (size.Size (length xs)) e out g (omega arith))
+      size_given : n ≤ length lent → Sizes (Ok n) out
+      size_given h = rw f (rows_given xs lent no (Ok (length xs)) e out g (omega arith))
 
   -- listing
-  abbrev Lists : List ℕ → SizeAnswer → List ℕ → Type 0
+  abbrev Lists : List ℕ → Result ℕ Refusal → List ℕ → Type 0
   Lists lent a out = (a ≡ list_answer t s (length lent)) × (out ≡ list_buffer t s lent)
 
-  pub list_refused : (lent : List ℕ) → (r.number ≡ 0 → ⊥) → Lists lent (size.Refused r.number r.place) lent
+  pub list_refused : (lent : List ℕ) → (r.number ≡ 0 → ⊥) → Lists lent (Err r) lent
   unfolding list_answer list_buffer
   list_refused lent h = size_refused (listed_of t s) lent h
 
   module _ (lent out : List ℕ) (n : ℕ) (e : r.number ≡ 0) (f : n ≡ length (listed_of t s)) (g : out ≡ written (listed_of t s) lent) where
-    pub list_short : length lent < n → Lists lent (size.Refused 12 n) out
+    pub list_short : length lent < n → Lists lent (no 12 n) out
     unfolding list_answer list_buffer
     list_short h = size_short (listed_of t s) lent out n e f g h
 
-    pub list_given : n ≤ length lent → Lists lent (size.Size n) out
+    pub list_given : n ≤ length lent → Lists lent (Ok n) out
     unfolding list_answer list_buffer
     list_given h = size_given (listed_of t s) lent out n e f g h
 
   -- standing
-  abbrev Stands : List ℕ → StandingAnswer → List ℕ → Type 0
-  Stands lent a out = (a ≡ standing_answer t s (length lent)) × (out ≡ standing_buffer t s lent)
+  abbrev Standing : List ℕ → Result Stands Refusal → List ℕ → Type 0
+  Standing lent a out = (a ≡ standing_answer t s (length lent)) × (out ≡ standing_buffer t s lent)
 
-  pub stand_refused : (lent : List ℕ) → (r.number ≡ 0 → ⊥) → Stands lent (standing.Refused r.number r.place) lent
+  pub stand_refused : (lent : List ℕ) → (r.number ≡ 0 → ⊥) → Standing lent (Err r) lent
   unfolding standing_answer standing_buffer
-  stand_refused lent h = rows_refused (waiting_of t s) lent standing.Refused (standing_of t s) h
+  stand_refused lent h = rows_refused (waiting_of t s) lent no (Ok (standing_of t s)) h
 
   module _ (lent out : List ℕ) (n : ℕ) (e : r.number ≡ 0) (f : n ≡ length (waiting_of t s)) (g : out ≡ written (waiting_of t s) lent) where
-    pub stand_short : length lent < n → Stands lent (standing.Refused 12 n) out
+    pub stand_short : length lent < n → Standing lent (no 12 n) out
     unfolding standing_answer standing_buffer
-    stand_short h = rw f (rows_short (waiting_of t s) lent standing.Refused (standing_of t s) e out g (omega arith))
+    stand_short h = rw f (rows_short (waiting_of t s) lent no (Ok (standing_of t s)) e out g (omega arith))
 
-    pub stand_given : n ≤ length lent → (a : StandingAnswer) → a ≡ standing_of t s → Stands lent a out
+    pub stand_given : n ≤ length lent → (a : Stands) → a ≡ standing_of t s → Standing lent (Ok a) out
     unfolding standing_answer standing_buffer
-    stand_given h a q = rw q (rows_given (waiting_of t s) lent standing.Refused (standing_of t s) e out g (omega arith))
+    stand_given h a q = rw q (rows_given (waiting_of t s) lent no (Ok (standing_of t s)) e out g (omega arith))
 
   -- what the rows wait for: a byte for each
-  abbrev Tells : List ℕ → SizeAnswer → List ℕ → Type 0
+  abbrev Tells : List ℕ → Result ℕ Refusal → List ℕ → Type 0
   Tells lent a out = (a ≡ waits_answer t s (length lent)) × (out ≡ waits_buffer t s lent)
 
-  pub waits_refused : (lent : List ℕ) → (r.number ≡ 0 → ⊥) → Tells lent (size.Refused r.number r.place) lent
+  pub waits_refused : (lent : List ℕ) → (r.number ≡ 0 → ⊥) → Tells lent (Err r) lent
   unfolding waits_answer waits_buffer
   waits_refused lent h = rw (← awaits_length t s) (size_refused (awaits_of t s) lent h)
 
   module _ (lent out : List ℕ) (n : ℕ) (e : r.number ≡ 0) (f : n ≡ length (waiting_of t s)) (g : out ≡ written (awaits_of t s) lent) where
-    pub waits_short : length lent < n → Tells lent (size.Refused 12 n) out
+    pub waits_short : length lent < n → Tells lent (no 12 n) out
     unfolding waits_answer waits_buffer
     waits_short h = rw (← awaits_length t s) (size_short (awaits_of t s) lent out n e (f ∙ sym (awaits_length t s)) g h)
 
-    pub waits_given : n ≤ length lent → Tells lent (size.Size n) out
+    pub waits_given : n ≤ length lent → Tells lent (Ok n) out
     unfolding waits_answer waits_buffer
     waits_given h = rw (← awaits_length t s) (size_given (awaits_of t s) lent out n e (f ∙ sym (awaits_length t s)) g h)
 
@@ -200,7 +213,7 @@ module _ (t : Table) (s : State) (r : Refusal) (told : r ≡ checked refuse (ref
     unfolding compact_answer compact_buffer
     compact_short h = rw f (rows_short (compacted_sheet t s) lent (not_compacted s) (was_compacted t s) e out g (omega arith))
 
-    pub compact_given : n ≤ length lent → (z : State) → z ≡ restarted t s → Compacts lent (record { answer = size.Size n; state = z }) out
+    pub compact_given : n ≤ length lent → (z : State) → z ≡ restarted t s → Compacts lent (record { answer = Ok n; state = z }) out
     unfolding compact_answer compact_buffer
     compact_given h z is = rw (f, is) (rows_given (compacted_sheet t s) lent (not_compacted s) (was_compacted t s) e out g (omega arith))
 
@@ -216,7 +229,7 @@ call_restarts t s r told e =
     let e' : (checked refuse (refuse 0 0) (call_checks t s)).number ≡ 0 = ap (λ (r : Refusal). r.number) (sym told) ∙ e in
     let z : (refusal_of t).number ≡ 0 = first_accepted (table_checks t) (mode_check s.mode ∷ fit_checks t s) refl e' in
     let f : Refusal = checked refuse (refuse 0 0) (state_checks t.m t.n t.terms s) in
-    let fits = (fits_accepted t s f refl (ap (λ (r : Refusal). r.number) (state_then t s (refusal_of t) refl z f refl) ∙ e')).1 in
+    let fits = (fits_accepted t s f refl (ap (λ (r : Refusal). r.number) (refusal_then t s z) ∙ e')).1 in
     sym (restarted_is t (well_formed t (meets t z)) s fits)
 
 -- where no step was taken, the state is the one that was handed in

@@ -4,6 +4,7 @@ use mathlib.Core.Path.{◌≡◌, refl, sym, ◌∙◌, ap}
 use mathlib.Core.Bool.{Bool, true, false, cond, true≢false}
 use mathlib.Core.List.{List, [], ◌∷◌}
 use mathlib.Core.Option.{Option, none, some}
+use Rattle.std.specs.Prelude.{Result, Ok}
 use mathlib.Core.Logic.{by_cases, ⊎_elim}
 use native.Mathlib.Omega.{arith}
 use native.Mathlib.Decide.{ℕ_discrete}
@@ -23,12 +24,10 @@ use Rattle.steps.specs.Rows.{Row, NIL, PREFIX, BRANCH}
 use Rattle.steps.specs.InFront.{in_front}
 use Rattle.sheet.specs.declared.Head.{Head}
 use Rattle.sheet.specs.Table.{Table, row_by, row_at, eval_in}
-use Rattle.sheet.specs.Rules.{term_rule, term_ok, refuse, table_checks}
+use Rattle.sheet.specs.declared.Refusal.{Refusal}
+use Rattle.sheet.specs.Rules.{term_rule, term_ok, refuse, no, table_checks}
 use Rattle.sheet.specs.Sheet.{size_of, head_of, sheet_checks}
 use Rattle.sheet.proofs.Refusals.{without, refused_by, accepted_by, one_place_fails, one_place_holds}
-use Rattle.codec.specs.declared.SheetAnswer.TheVariants as sheet
-use Rattle.codec.specs.declared.SizeAnswer.{SizeAnswer}
-use Rattle.codec.specs.declared.SizeAnswer.TheVariants as size
 use Rattle.codec.specs.Answers.{read_of, write_checks, write_of}
 use Rattle.state.specs.declared.State.{State}
 use Rattle.state.specs.declared.StepKind.TheVariants as kind
@@ -40,13 +39,11 @@ use Rattle.engine.specs.ByValue.{taken_answer}
 use Rattle.verdict.specs.Verdict.{verdict_of}
 use Rattle.damage.specs.Damage.{shown_sheet}
 use Rattle.sheet_engine.specs.declared.Compacted.{Compacted}
-use Rattle.sheet_engine.specs.declared.VerdictAnswer.TheVariants.{Refused}
-use Rattle.sheet_engine.specs.declared.StandingAnswer.TheVariants as standing
-use Rattle.sheet_engine.specs.Answers.{given, verdict_answer, call_checks, list_checks, list_answer, standing_of, standing_checks, standing_answer, waits_answer, kind_answer, not_taken, step_answer, compact_checks, not_compacted, was_compacted, compact_answer, damage_checks, damage_answer}
+use Rattle.sheet_engine.specs.Answers.{verdict_answer, call_checks, list_checks, list_answer, standing_of, standing_checks, standing_answer, waits_answer, kind_answer, not_taken, step_answer, compact_checks, not_compacted, was_compacted, compact_answer, damage_checks, damage_answer}
 use Rattle.sheet_engine.specs.Values.{VerdictValues, verdict_values, SheetValues, sheet_values, SizeValues, size_values, StandingValues, standing_values, StepValues, step_values, shown_by, shown, row_check, row_checks, Answers}
-use Rattle.sheet_engine.proofs.Promises.{given_unrefused}
+use Rattle.sheet_engine.proofs.Promises.{verdict_unrefused}
 use Rattle.sheet_engine.proofs.Steps.{no_kind}
-use Rattle.sheet_engine.proofs.Stands.{stands_rows}
+use Rattle.sheet_engine.proofs.HowItStands.{stands_rows}
 
 -- every check holds where none gives its number
 pub all_held : (cs : List Check) → without 0 cs ≡ true → (checked refuse (refuse 0 0) cs).number ≡ 0 → AllHold cs
@@ -69,16 +66,16 @@ module _ {A : Type 0} (number : A → ℕ) (refused : ℕ → ℕ → A) (good :
   }
 
 -- reading
-pub read_answers : (s : List ℕ) → Answers (λ (v : SheetValues). v.refusal) (λ n p. sheet_values (sheet.Refused n p)) (sheet_values (sheet.Sheet (head_of s))) (sheet_checks s) (sheet_values (read_of s))
+pub read_answers : (s : List ℕ) → Answers (λ (v : SheetValues). v.refusal) (λ n p. sheet_values (no n p)) (sheet_values (Ok (head_of s))) (sheet_checks s) (sheet_values (read_of s))
 unfolding read_of without
-read_answers s = rw (checked_map sheet_values sheet.Refused (sheet.Sheet (head_of s)) (sheet_checks s)) (answers _ _ _ (λ n p. refl) refl (sheet_checks s) refl)
+read_answers s = rw (checked_map sheet_values no (Ok (head_of s)) (sheet_checks s)) (answers _ _ _ (λ n p. refl) refl (sheet_checks s) refl)
 
 -- writing, listing, what the rows wait for, compacting, showing the damage
-abbrev SizeAnswers : ℕ → List Check → SizeAnswer → Type 0
-SizeAnswers n cs a = Answers (λ (v : SizeValues). v.refusal) (λ n p. size_values (size.Refused n p)) (size_values (size.Size n)) cs (size_values a)
+abbrev SizeAnswers : ℕ → List Check → Result ℕ Refusal → Type 0
+SizeAnswers n cs a = Answers (λ (v : SizeValues). v.refusal) (λ n p. size_values (no n p)) (size_values (Ok n)) cs (size_values a)
 
-size_answers : (n : ℕ) (cs : List Check) → without 0 cs ≡ true → SizeAnswers n cs (checked size.Refused (size.Size n) cs)
-size_answers n cs Some-number = rw (checked_map size_values size.Refused (size.Size n) cs) (answers _ _ _ (λ n p. refl) refl cs Some-number)
+size_answers : (n : ℕ) (cs : List Check) → without 0 cs ≡ true → SizeAnswers n cs (checked no (Ok n) cs)
+size_answers n cs Some-number = rw (checked_map size_values no (Ok n) cs) (answers _ _ _ (λ n p. refl) refl cs Some-number)
 
 pub write_answers : (h : Head) (ts cs : List ℕ) (lent : ℕ) → SizeAnswers (size_of h) (write_checks h ts cs lent) (write_of h ts cs lent)
 unfolding write_of without
@@ -100,13 +97,13 @@ pub damage_answers : (t : Table) (row lent : ℕ) → SizeAnswers (length (shown
 unfolding damage_answer without
 damage_answers t row lent = size_answers (length (shown_sheet t row)) (damage_checks t row lent) refl
 
-pub verdict_answers : (t : Table) → Answers (λ (v : VerdictValues). v.refusal) (λ n p. verdict_values (Refused n p)) (verdict_values (given (verdict_of t))) (table_checks t) (verdict_values (verdict_answer t))
+pub verdict_answers : (t : Table) → Answers (λ (v : VerdictValues). v.refusal) (λ n p. verdict_values (no n p)) (verdict_values (Ok (verdict_of t))) (table_checks t) (verdict_values (verdict_answer t))
 unfolding verdict_answer without
-verdict_answers t = rw (checked_map verdict_values Refused (given (verdict_of t)) (table_checks t)) (answers _ _ _ (λ n p. refl) (given_unrefused (verdict_of t)).0 (table_checks t) refl)
+verdict_answers t = rw (checked_map verdict_values no (Ok (verdict_of t)) (table_checks t)) (answers _ _ _ (λ n p. refl) (verdict_unrefused (verdict_of t)).0 (table_checks t) refl)
 
-pub standing_answers : (t : Table) (s : State) (lent : ℕ) → Answers (λ (v : StandingValues). v.refusal) (λ n p. standing_values (standing.Refused n p)) (standing_values (standing_of t s)) (standing_checks t s lent) (standing_values (standing_answer t s lent))
+pub standing_answers : (t : Table) (s : State) (lent : ℕ) → Answers (λ (v : StandingValues). v.refusal) (λ n p. standing_values (no n p)) (standing_values (Ok (standing_of t s))) (standing_checks t s lent) (standing_values (standing_answer t s lent))
 unfolding standing_answer without
-standing_answers t s lent = rw (checked_map standing_values standing.Refused (standing_of t s) (standing_checks t s lent)) (answers _ _ _ (λ n p. refl) (stands_rows t s).0 (standing_checks t s lent) refl)
+standing_answers t s lent = rw (checked_map standing_values no (Ok (standing_of t s)) (standing_checks t s lent)) (answers _ _ _ (λ n p. refl) (stands_rows t s).0 (standing_checks t s lent) refl)
 
 -- a step: its values are the bytes of its row
 abbrev step_refused : ℕ → ℕ → StepValues

@@ -1,27 +1,25 @@
 -- Document 01: "Where an answer is an enum, a definition gives this paper's number and values for each of its cases, and the promises use it." What the values have to be.
-use Rattle.std.specs.Prelude.{ℕ, ◌+◌, ◌*◌, ◌<◌, ◌≤◌, ◌≡◌, true, cond, List, [], ◌∷◌, ◌++◌, ◌↔◌, eqb, get_or}
+use Rattle.std.specs.Prelude.{ℕ, ◌+◌, ◌*◌, ◌<◌, ◌≤◌, ◌≡◌, true, cond, List, [], ◌∷◌, ◌++◌, ◌↔◌, Result, Ok, Err, eqb, get_or}
 use Rattle.laws.specs.Checks.{Check, checked, AllHold}
 use Rattle.calculus.specs.Process.{join}
 use Rattle.calculus.specs.Order.{Condition2}
 use Rattle.conditions.specs.Numbers.{number_of, assign, Offends, digit}
 use Rattle.steps.specs.Rows.{PREFIX}
 use Rattle.sheet.specs.Table.{Table, row_at, eval_in}
+use Rattle.sheet.specs.declared.Head.{Head}
+use Rattle.sheet.specs.declared.Refusal.{Refusal}
 use Rattle.sheet.specs.Rules.{refuse}
 use Rattle.failure.specs.Failure.{links_at}
-use Rattle.codec.specs.declared.SheetAnswer.{SheetAnswer}
-use Rattle.codec.specs.declared.SheetAnswer.TheVariants as sheet
-use Rattle.codec.specs.declared.SizeAnswer.{SizeAnswer}
-use Rattle.codec.specs.declared.SizeAnswer.TheVariants as size
+use Rattle.verdict.specs.declared.Verdict.{Verdict}
+use Rattle.verdict.specs.declared.Verdict.TheVariants.{Pass, Fail}
 use Rattle.state.specs.declared.State.{State}
 use Rattle.state.specs.declared.StepKind.{StepKind}
 use Rattle.state.specs.declared.StepKind.TheVariants as kind
 use Rattle.moves.specs.Steps.{links_of, kind_at, has_step, stepped_of}
 use Rattle.engine.specs.declared.Stepped.{Stepped}
 use Rattle.sheet_engine.specs.Answers.{call_checks}
-use Rattle.sheet_engine.specs.declared.StandingAnswer.{StandingAnswer}
-use Rattle.sheet_engine.specs.declared.StandingAnswer.TheVariants as standing
-use Rattle.sheet_engine.specs.declared.VerdictAnswer.{VerdictAnswer}
-use Rattle.sheet_engine.specs.declared.VerdictAnswer.TheVariants.{Pass, Fail, Refused}
+use Rattle.sheet_engine.specs.declared.Stands.{Stands}
+use Rattle.sheet_engine.specs.declared.Stands.TheVariants as standing
 
 -- number and place of the refusal; 1 for a failure, with its row, number and link
 pub record VerdictValues : Type 0 where
@@ -32,10 +30,10 @@ pub record VerdictValues : Type 0 where
   pub number : ℕ
   pub link : ℕ
 
-abbrev pub verdict_values : VerdictAnswer → VerdictValues
-verdict_values Pass = record { refusal = 0; place = 0; fails = 0; row = 0; number = 0; link = 0 }
-verdict_values (Fail row number link) = record { refusal = 0; place = 0; fails = 1; row = row; number = number; link = link }
-verdict_values (Refused number place) = record { refusal = number; place = place; fails = 0; row = 0; number = 0; link = 0 }
+abbrev pub verdict_values : Result Verdict Refusal → VerdictValues
+verdict_values (Ok Pass) = record { refusal = 0; place = 0; fails = 0; row = 0; number = 0; link = 0 }
+verdict_values (Ok (Fail row number link)) = record { refusal = 0; place = 0; fails = 1; row = row; number = number; link = link }
+verdict_values (Err e) = record { refusal = e.number; place = e.place; fails = 0; row = 0; number = 0; link = 0 }
 
 -- "A failure names the lowest JOIN row that fails, a number and a link." "Take the links of the condition in rising order; the number is the sum of value times 1, 3, 9 and so on. It is the smallest such number at which the condition is true and some false link, made unset, leaves it not true; the link is the lowest such one."
 pub record FailsAt (t : Table) (j x l : ℕ) : Type 0 where
@@ -58,9 +56,9 @@ pub record SheetValues : Type 0 where
   pub n : ℕ
   pub k : ℕ
 
-abbrev pub sheet_values : SheetAnswer → SheetValues
-sheet_values (sheet.Sheet h) = record { refusal = 0; place = 0; evaluation = h.evaluation; m = h.m; n = h.n; k = h.k }
-sheet_values (sheet.Refused number place) = record { refusal = number; place = place; evaluation = 0; m = 0; n = 0; k = 0 }
+abbrev pub sheet_values : Result Head Refusal → SheetValues
+sheet_values (Ok h) = record { refusal = 0; place = 0; evaluation = h.evaluation; m = h.m; n = h.n; k = h.k }
+sheet_values (Err e) = record { refusal = e.number; place = e.place; evaluation = 0; m = 0; n = 0; k = 0 }
 
 -- number and place of the refusal; the size
 pub record SizeValues : Type 0 where
@@ -68,9 +66,9 @@ pub record SizeValues : Type 0 where
   pub place : ℕ
   pub size : ℕ
 
-abbrev pub size_values : SizeAnswer → SizeValues
-size_values (size.Size needed) = record { refusal = 0; place = 0; size = needed }
-size_values (size.Refused number place) = record { refusal = number; place = place; size = 0 }
+abbrev pub size_values : Result ℕ Refusal → SizeValues
+size_values (Ok needed) = record { refusal = 0; place = 0; size = needed }
+size_values (Err e) = record { refusal = e.number; place = e.place; size = 0 }
 
 -- number and place of the refusal; 1 where steps are listed, 2 for "finished", 3 for "waiting" with the number of its rows
 pub record StandingValues : Type 0 where
@@ -79,11 +77,11 @@ pub record StandingValues : Type 0 where
   pub word : ℕ
   pub rows : ℕ
 
-abbrev pub standing_values : StandingAnswer → StandingValues
-standing_values standing.Enabled = record { refusal = 0; place = 0; word = 1; rows = 0 }
-standing_values standing.Finished = record { refusal = 0; place = 0; word = 2; rows = 0 }
-standing_values (standing.Waiting rows) = record { refusal = 0; place = 0; word = 3; rows = rows }
-standing_values (standing.Refused number place) = record { refusal = number; place = place; word = 0; rows = 0 }
+abbrev pub standing_values : Result Stands Refusal → StandingValues
+standing_values (Ok standing.Enabled) = record { refusal = 0; place = 0; word = 1; rows = 0 }
+standing_values (Ok standing.Finished) = record { refusal = 0; place = 0; word = 2; rows = 0 }
+standing_values (Ok (standing.Waiting rows)) = record { refusal = 0; place = 0; word = 3; rows = rows }
+standing_values (Err e) = record { refusal = e.number; place = e.place; word = 0; rows = 0 }
 
 -- number and place of the refusal; 1 for "act" with the activity, 2 for "set" with link and 0 or 1, 3 for "open", 4 for "clean"
 pub record StepValues : Type 0 where

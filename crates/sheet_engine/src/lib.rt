@@ -2,59 +2,37 @@
 
 #![tactic(auto)]
 
-ghost use Rattle.std.specs.Prelude.{◌≡◌, length};
+ghost use Rattle.std.specs.Prelude.{◌≡◌, Ok, length};
 ghost use Rattle.sheet.specs.Table.{table_of};
 ghost use Rattle.laws.specs.Checks.{checked};
-ghost use Rattle.sheet.specs.Rules.{refuse, refusal_of};
+ghost use Rattle.sheet.specs.Rules.{no, judged};
 ghost use Rattle.sheet.specs.Sheet.{settings_of, terms_of, conditions_of};
 ghost use Rattle.moves.specs.Steps.{Sized};
 ghost use Rattle.codec.specs.Answers.{Bytes, read_of, part_of, write_of, written_of};
 ghost use Rattle.sheet_engine.specs.Answers.{verdict_answer, start_answer, acts_left, links_unset, call_checks, list_answer, list_buffer, standing_answer, standing_buffer, waits_answer, waits_buffer, kind_answer, step_answer, compact_answer, compact_buffer, damage_answer, damage_buffer};
 
-use codec::{SheetAnswer, SizeAnswer};
 use engine::Stepped;
 use sheet::{Head, Refusal};
 use state::{State, StepKind};
 use verdict::Verdict;
 
-// The verdict, with the lowest JOIN row that fails, its number and its link; or number and place of the refusal.
+// How a state stands: steps are listed; nothing is left; it waits for so many JOIN rows.
 #[derive(Clone, Copy)]
-pub enum VerdictAnswer {
-    Pass,
-    Fail {
-        row: usize,
-        number: usize,
-        link: usize,
-    },
-    Refused(u8, usize),
-}
-
-// How a state stands: steps are listed; nothing is left; it waits for so many JOIN rows; or number and place of the refusal.
-#[derive(Clone, Copy)]
-pub enum StandingAnswer {
+pub enum Stands {
     Enabled,
     Finished,
     Waiting(usize),
-    Refused(u8, usize),
-}
-
-// Number and place of the refusal, and a state of zeros; or 0, 0 and a fresh state.
-#[derive(Clone, Copy)]
-pub struct Started {
-    pub number: u8,
-    pub place: usize,
-    pub state: State,
 }
 
 // The size of the compacted sheet, or number and place; and the state that goes with the sheet, or the state as it was.
 #[derive(Clone, Copy)]
 pub struct Compacted {
-    pub answer: SizeAnswer,
+    pub answer: Result<usize, Refusal>,
     pub state: State,
 }
 
 // The head of a sheet.
-pub fn read_sheet(s: &[u8]) -> SheetAnswer
+pub fn read_sheet(s: &[u8]) -> Result<Head, Refusal>
     ensures value { result ≡ read_of s.now }
     ensures bytes { Bytes s.now }
 {
@@ -80,62 +58,42 @@ pub fn conditions_part(s: &[u8]) -> &[u8]
     codec::conditions(s)
 }
 
-// The refusal of a table; 0 and 0 where it is accepted.
-pub fn judge_table(h: Head, ts: &[u8], cs: &[u8]) -> Refusal
-    ensures { result ≡ refusal_of (table_of h ts.now cs.now) }
+// Whether a table is accepted, or its refusal.
+pub fn judge_table(h: Head, ts: &[u8], cs: &[u8]) -> Result<(), Refusal>
+    ensures { result ≡ judged (table_of h ts.now cs.now) }
 {
     judge::judge(h, ts, cs)
 }
 
 // The bytes of a table.
-pub fn write_sheet(h: Head, ts: &[u8], cs: &[u8], out: &mut [u8]) -> SizeAnswer
+pub fn write_sheet(h: Head, ts: &[u8], cs: &[u8], out: &mut [u8]) -> Result<usize, Refusal>
     ensures { (result ≡ write_of h ts.now cs.now (length out.old)) × (out.new ≡ written_of h ts.now cs.now out.old) }
 {
     codec::write(h, ts, cs, out)
 }
 
 // The verdict of a table.
-pub fn give_verdict(h: Head, ts: &[u8], cs: &[u8]) -> VerdictAnswer
+pub fn give_verdict(h: Head, ts: &[u8], cs: &[u8]) -> Result<Verdict, Refusal>
     ensures { result ≡ verdict_answer (table_of h ts.now cs.now) }
 {
-    let refusal = judge::judge(h, ts, cs);
-    let number = refusal.number;
-    let place = refusal.place;
-    if number != 0 {
-        return VerdictAnswer::Refused(number, place);
-    }
-    match verdict::give(h, ts, cs) {
-        Verdict::Pass => VerdictAnswer::Pass,
-        Verdict::Fail { row, number, link } => VerdictAnswer::Fail { row, number, link },
+    match judge::judge(h, ts, cs) {
+        Ok(()) => Ok(verdict::give(h, ts, cs)),
+        Err(refusal) => Err(refusal),
     }
 }
 
 // A fresh state of a table, in a mode.
-pub fn start(h: Head, ts: &[u8], cs: &[u8], mode: u8) -> Started
+pub fn start(h: Head, ts: &[u8], cs: &[u8], mode: u8) -> Result<State, Refusal>
     ensures { result ≡ start_answer (table_of h ts.now cs.now) mode }
 {
-    let refusal = judge::judge(h, ts, cs);
-    let number = refusal.number;
-    let place = refusal.place;
-    if number != 0 {
-        return Started {
-            number,
-            place,
-            state: state::fresh(0),
-        };
-    }
+    judge::judge(h, ts, cs)?;
     if !fitting::mode_ok(mode) {
-        return Started {
+        return Err(Refusal {
             number: 9,
             place: mode as usize,
-            state: state::fresh(0),
-        };
+        });
     }
-    Started {
-        number: 0,
-        place: 0,
-        state: counts::counted(h.m, ts, h.n, state::fresh(mode)),
-    }
+    Ok(counts::counted(h.m, ts, h.n, state::fresh(mode)))
 }
 
 // Is there work left? How many ACT rows are in the remainder, as the state says; nothing is walked, and nothing is judged.
@@ -153,80 +111,69 @@ pub fn links_unset(s: State) -> u8
 }
 
 // The refusal of a table and a state.
-fn judge_state(s: State, h: Head, ts: &[u8], cs: &[u8]) -> Refusal
-    ensures { result ≡ checked refuse (refuse 0 0) (call_checks (table_of h ts.now cs.now) s) }
+fn judge_state(s: State, h: Head, ts: &[u8], cs: &[u8]) -> Result<(), Refusal>
+    ensures { result ≡ checked no (Ok tt) (call_checks (table_of h ts.now cs.now) s) }
 {
-    let refusal = judge::judge(h, ts, cs);
-    let number = refusal.number;
-    let place = refusal.place;
-    if number != 0 {
-        return Refusal { number, place };
-    }
+    judge::judge(h, ts, cs)?;
     fitting::fit(h.m, h.n, ts, s)
 }
 
 // The rows that have a step, rising, to a lent buffer, and their number; 12 with the size that is needed.
-pub fn list_steps(s: State, h: Head, ts: &[u8], cs: &[u8], out: &mut [u8]) -> SizeAnswer
+pub fn list_steps(s: State, h: Head, ts: &[u8], cs: &[u8], out: &mut [u8]) -> Result<usize, Refusal>
     ensures value { (result ≡ list_answer (table_of h ts.now cs.now) s (length out.old)) × (out.new ≡ list_buffer (table_of h ts.now cs.now) s out.old) }
     ensures sized { Sized s }
 {
-    let refusal = judge_state(s, h, ts, cs);
-    let number = refusal.number;
-    let place = refusal.place;
-    if number != 0 {
-        return SizeAnswer::Refused(number, place);
-    }
+    judge_state(s, h, ts, cs)?;
     let room = out.len();
     let size = engine::list(h, ts, cs, s, out);
     if room < size {
-        return SizeAnswer::Refused(12, size);
+        return Err(Refusal {
+            number: 12,
+            place: size,
+        });
     }
-    SizeAnswer::Size(size)
+    Ok(size)
 }
 
 // How a state stands, and the JOIN rows that it waits for, rising, to a lent buffer; 12 with the size that is needed.
-pub fn standing(s: State, h: Head, ts: &[u8], cs: &[u8], out: &mut [u8]) -> StandingAnswer
+pub fn standing(s: State, h: Head, ts: &[u8], cs: &[u8], out: &mut [u8]) -> Result<Stands, Refusal>
     ensures value { (result ≡ standing_answer (table_of h ts.now cs.now) s (length out.old)) × (out.new ≡ standing_buffer (table_of h ts.now cs.now) s out.old) }
     ensures sized { Sized s }
 {
-    let refusal = judge_state(s, h, ts, cs);
-    let number = refusal.number;
-    let place = refusal.place;
-    if number != 0 {
-        return StandingAnswer::Refused(number, place);
-    }
+    judge_state(s, h, ts, cs)?;
     let room = out.len();
     let found = engine::stand(h, ts, cs, s, out);
     let waiting = found.waiting;
     if room < waiting {
-        return StandingAnswer::Refused(12, waiting);
+        return Err(Refusal {
+            number: 12,
+            place: waiting,
+        });
     }
     if found.steps != 0 {
-        return StandingAnswer::Enabled;
+        return Ok(Stands::Enabled);
     }
     if waiting == 0 {
-        return StandingAnswer::Finished;
+        return Ok(Stands::Finished);
     }
-    StandingAnswer::Waiting(waiting)
+    Ok(Stands::Waiting(waiting))
 }
 
 // What the rows wait for that `standing` tells, a byte for each, in their order, to a lent buffer, and their number: the link, or 255 where the condition is false; 12 with the size that is needed.
-pub fn waits_for(s: State, h: Head, ts: &[u8], cs: &[u8], out: &mut [u8]) -> SizeAnswer
+pub fn waits_for(s: State, h: Head, ts: &[u8], cs: &[u8], out: &mut [u8]) -> Result<usize, Refusal>
     ensures value { (result ≡ waits_answer (table_of h ts.now cs.now) s (length out.old)) × (out.new ≡ waits_buffer (table_of h ts.now cs.now) s out.old) }
     ensures sized { Sized s }
 {
-    let refusal = judge_state(s, h, ts, cs);
-    let number = refusal.number;
-    let place = refusal.place;
-    if number != 0 {
-        return SizeAnswer::Refused(number, place);
-    }
+    judge_state(s, h, ts, cs)?;
     let room = out.len();
     let bytes = engine::wait(h, ts, cs, s, out);
     if room < bytes {
-        return SizeAnswer::Refused(12, bytes);
+        return Err(Refusal {
+            number: 12,
+            place: bytes,
+        });
     }
-    SizeAnswer::Size(bytes)
+    Ok(bytes)
 }
 
 // The step of a row; 11 and the row where it has none.
@@ -234,13 +181,10 @@ pub fn step_kind(s: State, h: Head, ts: &[u8], cs: &[u8], row: usize) -> StepKin
     ensures value { result ≡ kind_answer (table_of h ts.now cs.now) s row }
     ensures sized { Sized s }
 {
-    let refusal = judge_state(s, h, ts, cs);
-    let number = refusal.number;
-    let place = refusal.place;
-    if number != 0 {
-        return StepKind::Refused(number, place);
+    match judge_state(s, h, ts, cs) {
+        Ok(()) => engine::kind(h, ts, cs, s, row),
+        Err(refusal) => StepKind::Refused(refusal.number, refusal.place),
     }
-    engine::kind(h, ts, cs, s, row)
 }
 
 // Taking the step of a row: the kind and the new state; a refusal gives the state back as it was.
@@ -248,17 +192,14 @@ pub fn take_step(s: State, h: Head, ts: &[u8], cs: &[u8], row: usize) -> Stepped
     ensures value { result ≡ step_answer (table_of h ts.now cs.now) s row }
     ensures sized { Sized s }
 {
-    let refusal = judge_state(s, h, ts, cs);
-    let number = refusal.number;
-    let place = refusal.place;
-    if number != 0 {
-        return Stepped {
+    match judge_state(s, h, ts, cs) {
+        Ok(()) => engine::take(h, ts, cs, s, row),
+        Err(refusal) => Stepped {
             ok: false,
-            answer: StepKind::Refused(number, place),
+            answer: StepKind::Refused(refusal.number, refusal.place),
             state: s,
-        };
+        },
     }
-    engine::take(h, ts, cs, s, row)
 }
 
 // Taking a step on the caller's own state: the record is stored where a step was taken, else left as it was.
@@ -277,38 +218,41 @@ pub fn compact(s: State, h: Head, ts: &[u8], cs: &[u8], out: &mut [u8]) -> Compa
     ensures value { (result ≡ compact_answer (table_of h ts.now cs.now) s (length out.old)) × (out.new ≡ compact_buffer (table_of h ts.now cs.now) s out.old) }
     ensures sized { Sized s }
 {
-    let refusal = judge_state(s, h, ts, cs);
-    let number = refusal.number;
-    let place = refusal.place;
-    if number != 0 {
-        return Compacted {
-            answer: SizeAnswer::Refused(number, place),
+    match judge_state(s, h, ts, cs) {
+        Ok(()) => {
+            let room = out.len();
+            let size = collect::write(h, ts, cs, s, out);
+            if room < size {
+                return Compacted {
+                    answer: Err(Refusal {
+                        number: 12,
+                        place: size,
+                    }),
+                    state: s,
+                };
+            }
+            Compacted {
+                answer: Ok(size),
+                state: s.restart(),
+            }
+        }
+        Err(refusal) => Compacted {
+            answer: Err(refusal),
             state: s,
-        };
-    }
-    let room = out.len();
-    let size = collect::write(h, ts, cs, s, out);
-    if room < size {
-        return Compacted {
-            answer: SizeAnswer::Refused(12, size),
-            state: s,
-        };
-    }
-    Compacted {
-        answer: SizeAnswer::Size(size),
-        state: s.restart(),
+        },
     }
 }
 
 // The small sheet that shows what the failing condition of a JOIN row does, its bytes to a lent buffer: 15 and the row where it has none, 12 with the size that is needed.
-pub fn damage_sheet(h: Head, ts: &[u8], cs: &[u8], row: usize, out: &mut [u8]) -> SizeAnswer
+pub fn damage_sheet(
+    h: Head,
+    ts: &[u8],
+    cs: &[u8],
+    row: usize,
+    out: &mut [u8],
+) -> Result<usize, Refusal>
     ensures { (result ≡ damage_answer (table_of h ts.now cs.now) row (length out.old)) × (out.new ≡ damage_buffer (table_of h ts.now cs.now) row out.old) }
 {
-    let refusal = judge::judge(h, ts, cs);
-    let number = refusal.number;
-    let place = refusal.place;
-    if number != 0 {
-        return SizeAnswer::Refused(number, place);
-    }
+    judge::judge(h, ts, cs)?;
     showing::show(h, ts, cs, row, out)
 }

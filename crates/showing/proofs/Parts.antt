@@ -24,7 +24,8 @@ use Rattle.sheet.proofs.Accepted.{meets, well_formed}
 use Rattle.layout.specs.Bytes.{four, condition_bytes}
 use Rattle.layout.specs.InOrder.{size, in_order}
 use Rattle.reach.specs.Masks.{has_bit}
-use Rattle.codec.specs.declared.SizeAnswer.TheVariants.{Size, Refused}
+use Rattle.sheet.specs.Rules.{no}
+use Rattle.std.specs.Prelude.{Ok}
 use Rattle.codec.specs.Answers.{InRange}
 use Rattle.codec.proofs.Writing.{sheet_length}
 use Rattle.failure.specs.Failure.{link_at}
@@ -179,7 +180,7 @@ module _ (t : Table) (row mask x l : ℕ) (asked : Asked t row mask x l) where
             }
 
             -- what is then answered: 12, or the size
-            pub wrote : (lent out : List ℕ) (r : ℕ) → r ≡ size_of head → out ≡ written (sheet_of head terms conditions) lent → (length lent < r → Told t row lent (Refused 12 r) out) × (r ≤ length lent → Told t row lent (Size r) out)
+            pub wrote : (lent out : List ℕ) (r : ℕ) → r ≡ size_of head → out ≡ written (sheet_of head terms conditions) lent → (length lent < r → Told t row lent (no 12 r) out) × (r ≤ length lent → Told t row lent (Ok r) out)
             wrote lent out r f g =
                 let Long-as = f ∙ (sym (sheet_length head terms conditions in_range.terms_lent in_range.conditions_lent) ∙ ap length sheet_is) in
                 let as_written = g ∙ ap (λ (xs : List ℕ). written xs lent) sheet_is in

@@ -8,9 +8,8 @@ ghost use Rattle.sheet.specs.Rules.{refusal_of};
 ghost use Rattle.showing.specs.Answers.{show_answer, show_buffer};
 ghost use Rattle.showing.specs.Asked.{Asked};
 
-use codec::SizeAnswer;
 use failure::Failure;
-use sheet::Head;
+use sheet::{Head, Refusal};
 
 // The sheet for a JOIN row whose condition, on the links of the mask, fails at a number by a link: 15 where it would have too many condition rows, then 12. A FALSE row is put behind the kept condition rows, and counts where a link is left unset.
 fn write(
@@ -22,7 +21,7 @@ fn write(
     number: usize,
     link: usize,
     out: &mut [u8],
-) -> SizeAnswer
+) -> Result<usize, Refusal>
     requires { Asked (table_of h ts.now cs.now) row mask number link }
     ensures { (result ≡ show_answer (table_of h ts.now cs.now) row (length out.old)) × (out.new ≡ show_buffer (table_of h ts.now cs.now) row out.old) }
 {
@@ -33,7 +32,10 @@ fn write(
     let unset = scene::any_unset(mask, h.m, &values);
     let k = kept + unset as usize;
     if 256 < k {
-        return SizeAnswer::Refused(15, row);
+        return Err(Refusal {
+            number: 15,
+            place: row,
+        });
     }
     let mut terms = [0; 104];
     let n = scene::lay(
@@ -55,27 +57,39 @@ fn write(
     let room = out.len();
     let size = codec::lay(head, &terms, &conditions, out);
     if room < size {
-        return SizeAnswer::Refused(12, size);
+        return Err(Refusal {
+            number: 12,
+            place: size,
+        });
     }
-    SizeAnswer::Size(size)
+    Ok(size)
 }
 
 // The sheet for any row of an accepted table: 15 where it is no JOIN whose condition fails.
-pub fn show(h: Head, ts: &[u8], cs: &[u8], row: usize, out: &mut [u8]) -> SizeAnswer
+pub fn show(h: Head, ts: &[u8], cs: &[u8], row: usize, out: &mut [u8]) -> Result<usize, Refusal>
     requires { (refusal_of (table_of h ts.now cs.now)).number ≡ 0 }
     ensures { (result ≡ show_answer (table_of h ts.now cs.now) row (length out.old)) × (out.new ≡ show_buffer (table_of h ts.now cs.now) row out.old) }
 {
     if h.n <= row {
-        return SizeAnswer::Refused(15, row);
+        return Err(Refusal {
+            number: 15,
+            place: row,
+        });
     }
     if ts[row * 4] != 3 {
-        return SizeAnswer::Refused(15, row);
+        return Err(Refusal {
+            number: 15,
+            place: row,
+        });
     }
     let c = ts[row * 4 + 1];
     let masks = reach::masks(cs, h.k);
     let mask = reach::mask_of(&masks, c);
     match failure::of_condition(h.evaluation, h.m, cs, c as usize, mask) {
-        Failure::None => SizeAnswer::Refused(15, row),
+        Failure::None => Err(Refusal {
+            number: 15,
+            place: row,
+        }),
         Failure::At { number, link } => write(h, ts, cs, row, mask, number, link, out),
     }
 }

@@ -1,13 +1,15 @@
-use mathlib.Core.Path.{sym, ◌∙◌, ap}
-use Rattle.sheet.specs.declared.Refusal.{Refusal}
+use mathlib.Core.Path.{refl, sym, ◌∙◌}
+use Rattle.sheet.proofs.Refusals.{passed_on, judged_refused, judged_accepted}
 use Rattle.sheet_engine.proofs.Calls.{damage_refused, damage_shown}
 use Rattle.sheet_engine.proofs.damage_sheet.Goals as goal
 
-pub returns-then-number-ne0 : goal.returns-then-number-ne0
-returns-then-number-ne0 c = damage_refused _ _ c.judge-refusal.ensures _ _ c.if-number-ne0.true
+pub returns-in_err-judge : goal.returns-in_err-judge
+returns-in_err-judge c =
+    let d = judged_refused _ _ (sym c.judge.ensures ∙ c.in_err-judge.was) in
+    rw (passed_on _ c.from_residual.ensures.1) (damage_refused _ _ d.0 _ _ d.1)
 
 pub show-requires : goal.show-requires
-show-requires c = ap (λ (r : Refusal). r.number) (sym c.judge-refusal.ensures) ∙ c.if-number-ne0.false
+show-requires c = judged_accepted _ _ (sym c.judge.ensures ∙ c.in_ok-judge.was)
 
 pub returns : goal.returns
-returns c = damage_shown _ _ c.judge-refusal.ensures _ _ c.if-number-ne0.false _ _ c.show.ensures
+returns c = damage_shown _ _ refl _ _ (judged_accepted _ _ (sym c.judge.ensures ∙ c.in_ok-judge.was)) _ _ c.show.ensures

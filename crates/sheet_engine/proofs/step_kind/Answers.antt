@@ -1,12 +1,15 @@
-use Rattle.sheet_engine.proofs.Steps.{kind_refused, kind_given, call_formed}
+use mathlib.Core.Path.{refl, sym, ◌∙◌}
+use Rattle.sheet_engine.proofs.Steps.{kind_refused, kind_given, call_formed, call_refused, call_accepted}
 use borrow.Author.Rules.{rules}
 use Rattle.sheet_engine.proofs.step_kind.Goals as goal
 
-pub returns-then-number-ne0 : goal.returns-then-number-ne0
-returns-then-number-ne0 c = record { value = kind_refused _ _ _ c.judge_state-refusal.ensures _ c.if-number-ne0.true; sized = search rules }
+pub returns-in-Err : goal.returns-in-Err
+returns-in-Err c =
+    let d = call_refused _ c.args.s _ (sym c.judge_state.ensures ∙ c.in-Err.is) in
+    record { value = kind_refused _ _ _ d.0 _ d.1; sized = search rules }
 
 pub kind-requires : goal.kind-requires
-kind-requires c = call_formed _ c.args.s _ c.judge_state-refusal.ensures c.if-number-ne0.false
+kind-requires c = call_formed _ c.args.s _ refl (call_accepted _ _ _ (sym c.judge_state.ensures ∙ c.in-Ok.is))
 
-pub returns : goal.returns
-returns c = record { value = kind_given _ _ _ c.judge_state-refusal.ensures _ _ c.if-number-ne0.false c.kind.ensures; sized = search rules }
+pub returns-in-Ok : goal.returns-in-Ok
+returns-in-Ok c = record { value = kind_given _ _ _ refl _ _ (call_accepted _ _ _ (sym c.judge_state.ensures ∙ c.in-Ok.is)) c.kind.ensures; sized = search rules }

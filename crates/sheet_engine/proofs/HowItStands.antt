@@ -2,6 +2,7 @@
 use Prim.Native.Nat.{ℕ}
 use mathlib.Core.Path.{◌≡◌, refl, ap}
 use mathlib.Core.List.{List, [], ◌∷◌, cons≢nil}
+use Rattle.std.specs.Prelude.{Ok}
 use mathlib.Core.Logic.{◌⊎◌, inl, inr, ◌↔◌}
 use native.Mathlib.Omega.{arith}
 use lib.ListN.{length}
@@ -9,7 +10,7 @@ use Rattle.sheet.specs.Table.{Table}
 use Rattle.state.specs.declared.State.{State}
 use Rattle.moves.specs.Steps.{listed_of}
 use Rattle.moves.specs.Standing.{joins_of, waiting_by, waiting_of}
-use Rattle.sheet_engine.specs.declared.StandingAnswer.TheVariants.{Enabled, Finished, Waiting}
+use Rattle.sheet_engine.specs.declared.Stands.TheVariants.{Enabled, Finished, Waiting}
 use Rattle.sheet_engine.specs.Answers.{standing_by, standing_of}
 use Rattle.sheet_engine.specs.Values.{StandingValues, standing_values}
 
@@ -46,7 +47,7 @@ module _ (t : Table) (s : State) (k n : ℕ) (e : k ≡ length (listed_of t s)) 
 
 -- ... and which word says what
 abbrev values_by : List ℕ → List ℕ → StandingValues
-values_by steps joins = standing_values (standing_by steps joins)
+values_by steps joins = standing_values (Ok (standing_by steps joins))
 
 by_enabled : (steps joins : List ℕ) → ((values_by steps joins).word ≡ 1) ↔ (steps ≡ [] → ⊥)
 unfolding standing_by
@@ -80,7 +81,7 @@ by_rows [] (j ∷ joins) = (refl, refl)
 
 module _ (t : Table) (s : State) where
   abbrev values : StandingValues
-  values = standing_values (standing_of t s)
+  values = standing_values (Ok (standing_of t s))
 
   pub stands_rows : (values.refusal ≡ 0) × (values.rows ≡ length (waiting_of t s))
   unfolding standing_of waiting_of
