@@ -70,26 +70,21 @@ pub fn show(h: Head, ts: &[u8], cs: &[u8], row: usize, out: &mut [u8]) -> Result
     requires { (refusal_of (table_of h ts.now cs.now)).number ≡ 0 }
     ensures { (result ≡ show_answer (table_of h ts.now cs.now) row (length out.old)) × (out.new ≡ show_buffer (table_of h ts.now cs.now) row out.old) }
 {
+    let none = Refusal {
+        number: 15,
+        place: row,
+    };
     if h.n <= row {
-        return Err(Refusal {
-            number: 15,
-            place: row,
-        });
+        return Err(none);
     }
     if ts[row * 4] != 3 {
-        return Err(Refusal {
-            number: 15,
-            place: row,
-        });
+        return Err(none);
     }
     let c = ts[row * 4 + 1];
     let masks = reach::masks(cs, h.k);
     let mask = reach::mask_of(&masks, c);
     match failure::of_condition(h.evaluation, h.m, cs, c as usize, mask) {
-        Failure::None => Err(Refusal {
-            number: 15,
-            place: row,
-        }),
-        Failure::At { number, link } => write(h, ts, cs, row, mask, number, link, out),
+        None => Err(none),
+        Some(Failure { number, link }) => write(h, ts, cs, row, mask, number, link, out),
     }
 }

@@ -40,7 +40,7 @@ of_condition-requires c =
 
 pub write-requires : goal.write-requires
 write-requires c =
-    asked_at_law _ _ c.if-ts-row-ne3.false _ refl c.requires (omega arith) _ c.masks-masks.ensures _ c.mask_of-mask.ensures _ _ (sym c.of_condition.ensures ∙ c.in-At.is)
+    asked_at_law _ _ c.if-ts-row-ne3.false _ refl c.requires (omega arith) _ c.masks-masks.ensures _ c.mask_of-mask.ensures _ (sym c.of_condition.ensures ∙ c.in-Some.is)
 
 pub returns-in-None : goal.returns-in-None
 returns-in-None c = not_shown _ _ _ (not_failing _ _ c.if-ts-row-ne3.false _ refl (sym c.of_condition.ensures ∙ c.in-None.is))
