@@ -1,2 +1,3 @@
+pub mod Alone
 pub mod Places
 pub mod Fitted

@@ -13,8 +13,8 @@ use borrow.Author.Tests.{lt-ltb, le-ltb}
 use Rattle.laws.specs.Tests.{or}
 use Rattle.laws.specs.Checks.{Holds, place_of, checked}
 use Rattle.laws.proofs.Tests.{and_l, and_r}
-use Rattle.laws.proofs.Lowest.{lowest_same, lowest_none}
-use Rattle.laws.proofs.Checks.{Scanned, checked_holds}
+use Rattle.laws.proofs.Lowest.{lowest_same}
+use Rattle.laws.proofs.Checks.{Scanned, checked_holds, holds_end}
 use Rattle.calculus.specs.Places.{Mode}
 use Rattle.steps.specs.Marks.{Marks}
 use Rattle.steps.specs.InFront.{waiting}
@@ -23,48 +23,44 @@ use Rattle.sheet.specs.Rules.{no}
 use Rattle.sheet.proofs.Refusals.{one_place_fails, one_place_holds}
 use Rattle.state.specs.declared.State.{State}
 use Rattle.moves.specs.Steps.{marks_of, links_of, remainder_in, acts_of, unset_of}
-use Rattle.moves.specs.Fits.{suits, marks_fit, mark_ok, link_ok, wait_ok, clear_row, clear_ok, clear_fit, counts_ok, counts_fit}
+use Rattle.moves.specs.Fits.{suits, marks_fit, mark_ok, link_ok, wait_ok, clear_row, clear_ok, counts_ok, counts_fit}
 use Rattle.flags.specs.Flags.{flagged, Shows}
 use Rattle.flags.proofs.Shown.{shown}
 use Rattle.front.specs.declared.Question.TheVariants.{Held}
 use Rattle.front.specs.Asked.{asked_at, ShowsLive}
 use Rattle.front.proofs.Asking.{asked_held, asked_live}
-use Rattle.fitting.specs.Checks.{from_e, from_d, rest_fit}
+use Rattle.fitting.specs.Checks.{rest_fit, alone}
 
 module _ (ts : List ℕ) (n : ℕ) (m : Mode) (μ : Marks) where
   pub mark_read : (i : ℕ) (r : Bool) → i < n → r ≡ suits m (row_at ts i) (μ i) → mark_ok ts n m μ i ≡ r
   unfolding mark_ok
   mark_read i r h e = rw (lt-ltb i n h) (sym e)
 
-  -- where the marks below n suit, the place is that of the rest
-  pub rest_read : Scanned (marks_fit ts n m μ) n → place_of (rest_fit n μ) ≡ place_of (marks_fit ts n m μ)
-  unfolding Scanned place_of mark_ok
-  rest_read s = sym (s ∙ lowest_same (mark_ok ts n m μ) (λ k. eqb (μ k) 0) n (256 - n) (λ k low high. rw (le-ltb k n low) refl))
+  -- where the marks below n suit, the answer is that to the rest
+  pub rest_read : Scanned (marks_fit ts n m μ) n → alone (rest_fit n μ) ≡ alone (marks_fit ts n m μ)
+  unfolding Scanned place_of mark_ok checked
+  rest_read s = ap (λ p. cond (ltb p 256) (no 10 p) (Ok (tt {0}))) (sym (s ∙ lowest_same (mark_ok ts n m μ) (λ k. eqb (μ k) 0) n (256 - n) (λ k low high. rw (le-ltb k n low) refl)))
 
 -- the rows from n to a row have no mark: exactly then it is told
 pub record Unmarked (marks : List ℕ) (n row : ℕ) (none : Bool) : Type 0 where
-  pub since : n ≤ row
-  pub within : (k : ℕ) → n ≤ k → k < row → k < 256
   pub told : none ≡ true → (k : ℕ) → n ≤ k → k < row → eqb (get_or marks k 0) 0 ≡ true
   pub found : ((k : ℕ) → n ≤ k → k < row → eqb (get_or marks k 0) 0 ≡ true) → none ≡ true
 
 pub unmarked_none : (marks : List ℕ) (n : ℕ) → Unmarked marks n n true
-unmarked_none marks n = record { since = omega arith; within = (λ k low high. absurd (omega arith)); told = (λ e k low high. absurd (omega arith)); found = (λ f. refl) }
+unmarked_none marks n = record { told = (λ e k low high. absurd (omega arith)); found = (λ f. refl) }
 
-pub unmarked_more : (marks : List ℕ) (n row : ℕ) (none : Bool) → row < 256 → Unmarked marks n row none → Unmarked marks n (row + 1) (none && eqb (get_or marks row 0) 0)
+pub unmarked_more : (marks : List ℕ) (n row : ℕ) (none : Bool) → n ≤ row → Unmarked marks n row none → Unmarked marks n (row + 1) (none && eqb (get_or marks row 0) 0)
 unmarked_more marks n row none h u = record {
-  since = omega (arith, u.since);
-  within = (λ k low high. omega arith);
   told = (λ e k low high. by_cases (ℕ_discrete k row) (λ z. rw z (and_r none _ e)) (λ z. u.told (and_l none _ e) k low (omega arith)));
-  found = (λ f. rw (u.found (λ k low high. f k low (omega arith)), f row u.since (omega arith)) refl);
+  found = (λ f. rw (u.found (λ k low high. f k low (omega arith)), f row h (omega arith)) refl);
 }
 
-pub unmarked_end : (marks : List ℕ) (n row : ℕ) (none : Bool) → Unmarked marks n row none → 256 ≤ row → (none ≡ true) ↔ Holds (rest_fit n (λ k. get_or marks k 0))
-unmarked_end marks n row none u h = ((λ e k low high. u.told e k low (omega arith)), λ f. u.found (λ k low high. f k low (u.within k low high)))
+pub unmarked_end : (marks : List ℕ) (n : ℕ) (none : Bool) → Unmarked marks n 256 none → (none ≡ true) ↔ Holds (rest_fit n (λ k. get_or marks k 0))
+unmarked_end marks n none u = (u.told, u.found)
 
-pub rest_all : (n : ℕ) (μ : Marks) → n ≤ 256 → Holds (rest_fit n μ) → 256 ≡ place_of (rest_fit n μ)
-unfolding place_of
-rest_all n μ h f = sym (lowest_none (λ k. eqb (μ k) 0) n (256 - n) (λ k low high. f k low (omega arith)) ∙ omega arith)
+pub rest_all : (n : ℕ) (μ : Marks) → Holds (rest_fit n μ) → Ok tt ≡ alone (rest_fit n μ)
+unfolding checked
+rest_all n μ f = checked_holds no (Ok tt) (rest_fit n μ) [] _ refl (holds_end (rest_fit n μ) f)
 
 pub link_read : (m : ℕ) (links : List ℕ) (l : ℕ) (r : Bool) → r ≡ cond (ltb l m) (leb (get_or links l 0) 2) (eqb (get_or links l 0) 0) → link_ok m links l ≡ r
 unfolding link_ok
@@ -79,15 +75,15 @@ module _ (ts : List ℕ) (μ : Marks) (n : ℕ) (t : List ℕ) (i : ℕ) (h : i 
   unfolding clear_ok
   clear_read links s e = sym (e ∙ ap (λ (b : Bool). or (not b) (clear_row (row_at ts i) (μ i) links)) (shown _ n t s i h ∙ asked_live ts μ i))
 
--- where (d) holds, the refusal is that of (e), from the counts of what is left
-module _ (m n : ℕ) (ts : List ℕ) (s : State) (p : ℕ) (clear : p ≡ place_of (clear_fit ts n (marks_of s) s.links)) (none : n ≤ p) (a u : ℕ) (acts : a ≡ acts_of (remainder_in ts n (marks_of s) 0)) (unset : u ≡ unset_of m (links_of s)) where
+-- (e), from the counts of what is left
+module _ (m n : ℕ) (ts : List ℕ) (s : State) (a u : ℕ) (acts : a ≡ acts_of (remainder_in ts n (marks_of s) 0)) (unset : u ≡ unset_of m (links_of s)) where
   counts_read : counts_ok m ts n s ≡ (eqb s.acts a && eqb s.unset u)
   unfolding counts_ok
   counts_read = rw (acts, unset) refl
 
-  pub counts_right : (eqb s.acts a && eqb s.unset u) ≡ true → Ok (tt {0}) ≡ checked no (Ok tt) (from_d m n ts s)
+  pub counts_right : (eqb s.acts a && eqb s.unset u) ≡ true → Ok tt ≡ alone (counts_fit m ts n s)
   unfolding checked
-  counts_right e = one_place_holds no (Ok tt) (counts_fit m ts n s) [] refl (counts_read ∙ e) ∙ checked_holds no (Ok tt) (clear_fit ts n (marks_of s) s.links) (from_e m n ts s) p clear none
+  counts_right e = one_place_holds no (Ok tt) (counts_fit m ts n s) [] refl (counts_read ∙ e)
 
-  pub counts_wrong : (eqb s.acts a && eqb s.unset u) ≡ false → no 10 0 ≡ checked no (Ok (tt {0})) (from_d m n ts s)
-  counts_wrong e = one_place_fails no (Ok tt) (counts_fit m ts n s) [] (omega arith) (counts_read ∙ e) ∙ checked_holds no (Ok tt) (clear_fit ts n (marks_of s) s.links) (from_e m n ts s) p clear none
+  pub counts_wrong : (eqb s.acts a && eqb s.unset u) ≡ false → no 10 0 ≡ alone (counts_fit m ts n s)
+  counts_wrong e = one_place_fails no (Ok tt) (counts_fit m ts n s) [] (omega arith) (counts_read ∙ e)

@@ -34,3 +34,7 @@ module _ (m n : ℕ) (ts : List ℕ) (s : State) where
 -- 10 (a) from row n on: "are 0 from row n on"
 abbrev pub rest_fit : ℕ → Marks → Check
 rest_fit n μ = record { number = 10; from = n; upto = 256; rule = λ k. eqb (μ k) 0 }
+
+-- what one check answers
+abbrev pub alone : Check → Result (Unit {0}) Refusal
+alone c = checked no (Ok tt) (c ∷ [])

@@ -1,18 +1,17 @@
-// Does a state fit a table? Each check has a function of its own; the chain of the last five is the order of the checks.
+// Does a state fit a table? Each check has a function of its own, and the last function their order.
 
 #![tactic(auto)]
 
-ghost use Rattle.std.specs.Prelude.{◌≡◌, ◌↔◌, ◌+◌, ◌*◌, ◌<◌, ◌≤◌, Ok, true, cond, not, eqb, ltb, leb, length, get_or};
+ghost use Rattle.std.specs.Prelude.{◌≡◌, ◌↔◌, ◌+◌, ◌*◌, ◌<◌, ◌≤◌, true, cond, not, eqb, ltb, leb, length, get_or};
 ghost use Rattle.laws.specs.Tests.{or};
-ghost use Rattle.laws.specs.Checks.{Holds, place_of, checked};
+ghost use Rattle.laws.specs.Checks.{Holds};
 ghost use Rattle.steps.specs.InFront.{waiting};
 ghost use Rattle.sheet.specs.Table.{row_at};
 ghost use Rattle.sheet.specs.Accepted.{RowsLent};
-ghost use Rattle.sheet.specs.Rules.{no};
-ghost use Rattle.moves.specs.Steps.{mode_of};
-ghost use Rattle.moves.specs.Fits.{suits, clear_row, mode_check, marks_fit, links_fit, waits_fit, clear_fit};
+ghost use Rattle.moves.specs.Steps.{mode_of, marks_of};
+ghost use Rattle.moves.specs.Fits.{suits, clear_row, mode_check, marks_fit, links_fit, waits_fit, clear_fit, counts_fit};
 ghost use Rattle.front.specs.Asked.{ShowsLive};
-ghost use Rattle.fitting.specs.Checks.{rest_fit, from_d, from_c, from_b, from_a, fitted};
+ghost use Rattle.fitting.specs.Checks.{rest_fit, alone, fitted};
 
 use rows::term::TermRow;
 use sheet::Refusal;
@@ -23,6 +22,19 @@ pub fn mode_ok(mode: u8) -> bool
     ensures { result ≡ (mode_check mode).rule mode }
 {
     mode <= 1
+}
+
+// The place of 9 is the mode itself.
+fn fit_mode(mode: u8) -> Result<(), Refusal>
+    ensures { result ≡ alone (mode_check mode) }
+{
+    if !mode_ok(mode) {
+        return Err(Refusal {
+            number: 9,
+            place: mode as usize,
+        });
+    }
+    Ok(())
 }
 
 // (a) the mark suits its row and the mode.
@@ -109,6 +121,7 @@ fn clear_ok(live: u8, ts: &[u8], row: usize, mark: u8, links: &[u8; 64]) -> bool
 
 // No row from n on has a mark. The loop has one end, so that it can take many marks at once.
 fn unmarked_from(marks: &[u8; 256], n: usize) -> bool
+    requires { n ≤ 256 }
     ensures { (result ≡ true) ↔ Holds (rest_fit n (λ k. get_or marks.now k 0)) }
 {
     let mut none = true;
@@ -119,90 +132,94 @@ fn unmarked_from(marks: &[u8; 256], n: usize) -> bool
 }
 
 // 10 (a), from row n on.
-fn bad_rest(marks: &[u8; 256], n: usize) -> usize
+fn fit_rest(marks: &[u8; 256], n: usize) -> Result<(), Refusal>
     requires { n ≤ 256 }
-    ensures { result ≡ place_of (rest_fit n (λ k. get_or marks.now k 0)) }
+    ensures { result ≡ alone (rest_fit n (λ k. get_or marks.now k 0)) }
 {
     if unmarked_from(marks, n) {
-        return 256;
+        return Ok(());
     }
     for row in n..256 {
         if marks[row] != 0 {
-            return row;
+            return Err(Refusal {
+                number: 10,
+                place: row,
+            });
         }
     }
-    256
+    Ok(())
 }
 
 // 10 (a): the lowest row whose mark does not suit.
-fn bad_mark(mode: u8, ts: &[u8], n: usize, marks: &[u8; 256]) -> usize
+fn fit_marks(mode: u8, ts: &[u8], n: usize, marks: &[u8; 256]) -> Result<(), Refusal>
     requires { (n * 4 ≤ length ts.now) × (n ≤ 256) }
-    ensures { result ≡ place_of (marks_fit ts.now n (mode_of mode) (λ k. get_or marks.now k 0)) }
+    ensures { result ≡ alone (marks_fit ts.now n (mode_of mode) (λ k. get_or marks.now k 0)) }
 {
     for row in 0..n {
         if !suits(mode, ts, row, marks[row]) {
-            return row;
+            return Err(Refusal {
+                number: 10,
+                place: row,
+            });
         }
     }
-    bad_rest(marks, n)
+    fit_rest(marks, n)
 }
 
 // 10 (b): the lowest link whose value does not suit.
-fn bad_link(m: usize, links: &[u8; 64]) -> usize
-    ensures { result ≡ place_of (links_fit m links.now) }
+fn fit_links(m: usize, links: &[u8; 64]) -> Result<(), Refusal>
+    ensures { result ≡ alone (links_fit m links.now) }
 {
     for (link, value) in links.iter().enumerate() {
         if !link_ok(m, link, *value) {
-            return link;
+            return Err(Refusal {
+                number: 10,
+                place: link,
+            });
         }
     }
-    64
+    Ok(())
 }
 
 // 10 (c): the lowest row that should wait and does not.
-fn bad_wait(ts: &[u8], n: usize, marks: &[u8; 256]) -> usize
+fn fit_waits(ts: &[u8], n: usize, marks: &[u8; 256]) -> Result<(), Refusal>
     requires { RowsLent ts.now n }
-    ensures { result ≡ place_of (waits_fit ts.now n (λ k. get_or marks.now k 0)) }
+    ensures { result ≡ alone (waits_fit ts.now n (λ k. get_or marks.now k 0)) }
 {
     let held = front::ask(front::Question::Held, ts, n, marks);
     for row in 0..n {
         if !wait_ok(held[row], ts, row, marks[row]) {
-            return row;
+            return Err(Refusal {
+                number: 10,
+                place: row,
+            });
         }
     }
-    n
+    Ok(())
 }
 
 // 10 (d): the lowest OUT row of the remainder whose link is set, from the rows that are live.
-fn bad_clear<'a>(
-    ts: &[u8],
-    n: usize,
-    marks: &'a [u8; 256],
-    links: &'a [u8; 64],
-    live: &[u8; 256],
-) -> usize
-    requires { ((n ≤ 256) × (n * 4 ≤ length ts.now)) × ShowsLive ts.now n (λ k. get_or marks.now k 0) live.now }
-    ensures { result ≡ place_of (clear_fit ts.now n (λ k. get_or marks.now k 0) links.now) }
+fn fit_clear(ts: &[u8], n: usize, s: &State, live: &[u8; 256]) -> Result<(), Refusal>
+    requires { ((n ≤ 256) × (n * 4 ≤ length ts.now)) × ShowsLive ts.now n (marks_of s.now) live.now }
+    ensures { result ≡ alone (clear_fit ts.now n (marks_of s.now) s.now.links) }
 {
     for row in 0..n {
-        if !clear_ok(live[row], ts, row, marks[row], links) {
-            return row;
+        if !clear_ok(live[row], ts, row, s.marks[row], &s.links) {
+            return Err(Refusal {
+                number: 10,
+                place: row,
+            });
         }
     }
-    n
+    Ok(())
 }
 
-// Checks 10 (d) and (e), the last: the rows that are live are made once for both.
-fn fit_clear(m: usize, n: usize, ts: &[u8], s: State) -> Result<(), Refusal>
-    requires { (m ≤ 64) × RowsLent ts.now n }
-    ensures { result ≡ checked no (Ok tt) (from_d m n ts.now s) }
+// 10 (e): the counts, from the rows that are live.
+fn fit_counts(m: usize, n: usize, ts: &[u8], s: &State, live: &[u8; 256]) -> Result<(), Refusal>
+    requires { (m ≤ 64) × (RowsLent ts.now n × ShowsLive ts.now n (marks_of s.now) live.now) }
+    ensures { result ≡ alone (counts_fit m ts.now n s.now) }
 {
-    let live = front::ask(front::Question::Live, ts, n, &s.marks);
-    let place = bad_clear(ts, n, &s.marks, &s.links, &live);
-    if place < n {
-        return Err(Refusal { number: 10, place });
-    }
-    let acts = counts::acts(ts, n, &s.marks, &live);
+    let acts = counts::acts(ts, n, &s.marks, live);
     let unset = counts::unset(m, &s.links);
     if !((s.acts == acts) & (s.unset == unset)) {
         return Err(Refusal {
@@ -213,53 +230,16 @@ fn fit_clear(m: usize, n: usize, ts: &[u8], s: State) -> Result<(), Refusal>
     Ok(())
 }
 
-// Check 10 (c) and on.
-fn fit_waits(m: usize, n: usize, ts: &[u8], s: State) -> Result<(), Refusal>
-    requires { (m ≤ 64) × RowsLent ts.now n }
-    ensures { result ≡ checked no (Ok tt) (from_c m n ts.now s) }
-{
-    let place = bad_wait(ts, n, &s.marks);
-    if place < n {
-        return Err(Refusal { number: 10, place });
-    }
-    fit_clear(m, n, ts, s)
-}
-
-// Check 10 (b) and on.
-fn fit_links(m: usize, n: usize, ts: &[u8], s: State) -> Result<(), Refusal>
-    requires { (m ≤ 64) × RowsLent ts.now n }
-    ensures { result ≡ checked no (Ok tt) (from_b m n ts.now s) }
-{
-    let place = bad_link(m, &s.links);
-    if place < 64 {
-        return Err(Refusal { number: 10, place });
-    }
-    fit_waits(m, n, ts, s)
-}
-
-// Check 10 (a) and on.
-fn fit_marks(m: usize, n: usize, ts: &[u8], s: State) -> Result<(), Refusal>
-    requires { (m ≤ 64) × RowsLent ts.now n }
-    ensures { result ≡ checked no (Ok tt) (from_a m n ts.now s) }
-{
-    let place = bad_mark(s.mode, ts, n, &s.marks);
-    if place < 256 {
-        return Err(Refusal { number: 10, place });
-    }
-    fit_links(m, n, ts, s)
-}
-
-// The refusal of a state: checks 9 and 10, in order.
+// The refusal of a state: checks 9 and 10, in order. The rows that are live are made once for 10 (d) and (e).
 pub fn fit(m: usize, n: usize, ts: &[u8], s: State) -> Result<(), Refusal>
     requires { (m ≤ 64) × RowsLent ts.now n }
     ensures { result ≡ fitted m n ts.now s }
 {
-    let mode = s.mode;
-    if !mode_ok(mode) {
-        return Err(Refusal {
-            number: 9,
-            place: mode as usize,
-        });
-    }
-    fit_marks(m, n, ts, s)
+    fit_mode(s.mode)?;
+    fit_marks(s.mode, ts, n, &s.marks)?;
+    fit_links(m, &s.links)?;
+    fit_waits(ts, n, &s.marks)?;
+    let live = front::ask(front::Question::Live, ts, n, &s.marks);
+    fit_clear(ts, n, &s, &live)?;
+    fit_counts(m, n, ts, &s, &live)
 }
