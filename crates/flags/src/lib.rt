@@ -1,4 +1,4 @@
-// Rows as a table of flags: how many there are, and their numbers, rising, to a lent buffer.
+// Rows as a table of flags: how many there are, and their numbers, rising, to a lent buffer. A flag stays a byte, 0 or 1, in `Shows`: tables of flags are counted and compared as bytes.
 
 #![tactic(auto)]
 

@@ -5,6 +5,7 @@
 ghost use Rattle.std.specs.Prelude.{◌≡◌, ◌<◌, replicate};
 ghost use Rattle.state.specs.State.{fresh_of, pass_of, drop_of, decide_of, set_of, with_counts, restart_of};
 
+// Mode, marks and link values stay bytes, and the two counts fields: callers hold this record, and `step_in_place` and `step_lent` change theirs.
 #[derive(Clone, Copy)]
 pub struct State {
     pub mode: u8,
@@ -59,12 +60,7 @@ impl State {
     pub fn decide(mut self, row: u8, right: bool) -> State
         ensures { result ≡ decide_of self row right }
     {
-        let at = row as usize;
-        if right {
-            self.marks[at] = 3;
-        } else {
-            self.marks[at] = 2;
-        }
+        self.marks[row as usize] = if right { 3 } else { 2 };
         self
     }
 
