@@ -1,7 +1,7 @@
 -- Link values as bytes: those that a number makes, those without one link, and true for those that are unset. Assumes nothing.
 use Prim.Native.Nat.{ℕ, zero, suc, ◌+◌, ◌*◌, ◌<◌, ◌≤◌, ◌/◌, ◌%◌}
 use mathlib.Core.Path.{◌≡◌, refl, sym, ◌∙◌, ap, fun_ext}
-use mathlib.Core.Bool.{Bool, true, false, cond, not, ◌&&◌}
+use mathlib.Core.Bool.{Bool, true, false, cond}
 use mathlib.Core.List.{List, Memᴰ}
 use mathlib.Core.Logic.{⊎_elim, by_cases}
 use native.Mathlib.Omega.{arith}
@@ -10,10 +10,9 @@ use native.Mathlib.Decide.{ℕ_discrete, dec_lt}
 use lib.Dec.{eqb, ltb}
 use lib.ListN.{get_or, length, set, length-set, get_or-eq_default, replicate}
 use lib.Seq.{get_or-set_same, get_or-set_other}
-use borrow.Author.Tests.{eqb-true, eqb-false, eq-eqb, ne_eqb, lt-ltb, le-ltb, not-true, not-false}
+use borrow.Author.Tests.{eq-eqb, ne_eqb, lt-ltb, le-ltb}
 use Rattle.laws.specs.Tests.{bit}
 use Rattle.laws.specs.Listed.{listed}
-use Rattle.laws.proofs.Tests.{and_r}
 use Rattle.laws.proofs.Up.{get_d_constant}
 use Rattle.laws.proofs.Listed.{left, left_hit, left_miss, left_end, listed_inside}
 use Rattle.calculus.specs.Status.{Unset, truth, Links, with_unset}
@@ -42,22 +41,13 @@ byte_set zero h = absurd (h refl)
 byte_set (suc zero) h = refl
 byte_set (suc (suc x)) h = rw (lt-ltb 1 (suc (suc x)) (omega arith)) refl
 
--- what a test of a link of a mask and of its byte says
-module _ (t : List ℕ) (l : ℕ) (h : l < 64) (r : Bool) where
-  abbrev byte : ℕ
-  byte = get_or t l 0
+-- what a test of a link's byte says
+module _ (t : List ℕ) (l : ℕ) (h : l < 64) where
+  pub link_unset : get_or t l 0 ≡ 0 → links_in t l ≡ Unset
+  link_unset e = links_at_law t l h ∙ byte_unset (get_or t l 0) e
 
-  pub found_unset : (r && eqb byte 0) ≡ true → links_in t l ≡ Unset
-  found_unset e = links_at_law t l h ∙ byte_unset byte (eqb-true byte 0 (and_r r _ e))
-
-  pub none_unset : (r && eqb byte 0) ≡ false → r ≡ true → links_in t l ≡ truth (ltb 1 byte)
-  none_unset e q = links_at_law t l h ∙ byte_set byte (eqb-false byte 0 (rw q at e))
-
-  pub found_set : (r && not (eqb byte 0)) ≡ true → links_in t l ≡ truth (ltb 1 byte)
-  found_set e = links_at_law t l h ∙ byte_set byte (eqb-false byte 0 (not-true _ (and_r r _ e)))
-
-  pub none_set : (r && not (eqb byte 0)) ≡ false → r ≡ true → links_in t l ≡ Unset
-  none_set e q = links_at_law t l h ∙ byte_unset byte (eqb-true byte 0 (not-false _ (rw q at e)))
+  pub link_set : (get_or t l 0 ≡ 0 → ⊥) → links_in t l ≡ truth (ltb 1 (get_or t l 0))
+  link_set e = links_at_law t l h ∙ byte_set (get_or t l 0) e
 
 -- THE DIGITS OF A NUMBER, link by link
 module _ (p : ℕ → Bool) (m x : ℕ) where

@@ -19,14 +19,10 @@ pub fn values(mask: u64, m: usize, x: usize) -> [u8; 64]
 {
     let mut table = [0; 64];
     let mut rest = x;
-    let mut l = 0;
-    while l < m {
+    for l in 0..m {
         if reach::reached(mask, l) {
             table[l] = (rest % 3) as u8;
-            rest = rest / 3;
-            l += 1;
-        } else {
-            l += 1;
+            rest /= 3;
         }
     }
     table
@@ -37,12 +33,10 @@ pub fn any_unset(mask: u64, m: usize, values: &[u8; 64]) -> bool
     requires { m ≤ 64 }
     ensures { result ≡ any_unset (links_in values.now) (listed (has_bit mask) 0 m) }
 {
-    let mut l = 0;
-    while l < m {
-        if reach::reached(mask, l) & (values[l] == 0) {
+    for l in 0..m {
+        if reach::reached(mask, l) && values[l] == 0 {
             return true;
         }
-        l += 1;
     }
     false
 }
@@ -52,33 +46,24 @@ fn true_where_unset(values: &[u8; 64]) -> [u8; 64]
     ensures { TrueWhereUnset values.now result }
 {
     let mut table = [0; 64];
-    let mut l = 0;
-    while l < 64 {
-        table[l] = (values[l] == 0) as u8 * 2;
-        l += 1;
+    for (l, value) in values.iter().enumerate() {
+        table[l] = (*value == 0) as u8 * 2;
     }
     table
 }
 
-// The OUTs of the links of the mask that are not unset, in rising order, from row n on; and the next row.
+// The OUTs of the links of the mask that are not unset, in rising order, from row n on; and the next row. Mask, m and values are no struct: `lay` is lent them one by one, as the contract that showing cites has them.
 fn outs(mask: u64, m: usize, values: &[u8; 64], out: &mut [u8], n: usize) -> usize
     requires { ((m ≤ 64) × (n + length (listed (has_bit mask) 0 m) < 256)) × ((n + length (listed (has_bit mask) 0 m)) * 4 ≤ length out.old) }
     ensures { LaysOuts (links_in values.now) (listed (has_bit mask) 0 m) n out.old result out.new }
 {
     let mut next = n;
-    let mut l = 0;
-    while l < m {
+    for l in 0..m {
         let value = values[l];
-        if reach::reached(mask, l) & (value != 0) {
-            laying::put(
-                out,
-                next * 4,
-                [2, l as u8, (1 < value) as u8, next as u8 + 1],
-            );
+        if reach::reached(mask, l) && value != 0 {
+            let row = [2, l as u8, (1 < value) as u8, next as u8 + 1];
+            laying::put(out, next * 4, row);
             next += 1;
-            l += 1;
-        } else {
-            l += 1;
         }
     }
     next

@@ -1,4 +1,3 @@
-use Prim.Native.Nat.{◌-◌, ◌≤◌}
 use mathlib.Core.Path.{◌≡◌}
 use Rattle.laws.specs.Listed.{listed}
 use Rattle.laws.proofs.Listed.{left}
@@ -8,7 +7,4 @@ use Rattle.damage.specs.Scene.{any_unset}
 use Rattle.scene.proofs.any_unset.Given as goal
 
 abbrev pub invariant-loop-l : goal.invariant-loop-l
-invariant-loop-l l = (l.l ≤ l.m) × (any_unset (links_in l.values) (listed (has_bit l.mask) 0 l.m) ≡ any_unset (links_in l.values) (left (has_bit l.mask) l.m l.l))
-
-abbrev pub decreases-loop-l : goal.decreases-loop-l
-decreases-loop-l l = l.m - l.l
+invariant-loop-l l = any_unset (links_in l.values) (listed (has_bit l.mask) 0 l.m) ≡ any_unset (links_in l.values) (left (has_bit l.mask) l.m l.l)

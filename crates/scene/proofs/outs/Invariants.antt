@@ -1,4 +1,3 @@
-use Prim.Native.Nat.{◌-◌}
 use Rattle.reach.specs.Masks.{has_bit}
 use Rattle.evaluate.specs.Values.{links_in}
 use Rattle.scene.proofs.Setting.{Outs}
@@ -6,6 +5,3 @@ use Rattle.scene.proofs.outs.Given as goal
 
 abbrev pub invariant-loop-l : goal.invariant-loop-l
 invariant-loop-l l = Outs (links_in l.values) (has_bit l.mask) l.m l.n l.initial.out l.l l.next l.out
-
-abbrev pub decreases-loop-l : goal.decreases-loop-l
-decreases-loop-l l = l.m - l.l

@@ -1,4 +1,4 @@
-use Prim.Native.Nat.{◌-◌, ◌*◌, ◌≤◌}
+use Prim.Native.Nat.{◌*◌}
 use mathlib.Core.Path.{◌≡◌}
 use lib.Dec.{eqb}
 use lib.ListN.{get_or, length}
@@ -7,7 +7,4 @@ use Rattle.laws.specs.Up.{Filled}
 use Rattle.scene.proofs.true_where_unset.Given as goal
 
 abbrev pub invariant-loop-l : goal.invariant-loop-l
-invariant-loop-l l = (l.l ≤ 64) × ((length l.table ≡ 64) × Filled 0 (λ k. bit (eqb (get_or l.values k 0) 0) * 2) l.l l.table)
-
-abbrev pub decreases-loop-l : goal.decreases-loop-l
-decreases-loop-l l = 64 - l.l
+invariant-loop-l l = (length l.table ≡ 64) × Filled 0 (λ k. bit (eqb (get_or l.values k 0) 0) * 2) l.l l.table
