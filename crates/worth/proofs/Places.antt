@@ -88,11 +88,11 @@ module _ (word from : ℕ) (inside : from < 64) where
     bit_before : (l : ℕ) → from ≤ l → l < from + zeros → has_bit word l ≡ false
     bit_before l h k = rest_at l h ∙ not-true _ (lowest_below (λ j. not (has_bit rest j)) 0 64 (l - from) (omega arith) (omega (arith, trailing_lowest 64 rest)))
 
+    pub first_inside : from + zeros < 64
+    first_inside = by_cases (dec_lt (from + zeros) 64) (λ h. h) (λ h. absurd (not_both bit_there (bit_high 64 word (from + zeros) small (omega arith))))
+
     pub first_some : from + zeros ≡ lowest (λ l. not (has_bit word l)) from (64 - from)
-    first_some =
-        by_cases (dec_lt (from + zeros) 64)
-        (λ h. sym (lowest_is (λ l. not (has_bit word l)) from (64 - from) (from + zeros) (omega arith) (λ l a b. ap not (bit_before l a b)) (omega arith) (ap not bit_there)))
-        (λ h. absurd (not_both bit_there (bit_high 64 word (from + zeros) small (omega arith))))
+    first_some = let h = first_inside in sym (lowest_is (λ l. not (has_bit word l)) from (64 - from) (from + zeros) (omega arith) (λ l a b. ap not (bit_before l a b)) (omega arith) (ap not bit_there))
 
 -- no row stands at the places from one to before another
 unfoldable pub Clear : List ℕ → ℕ → ℕ → Type 0
@@ -113,7 +113,7 @@ module _ (rows : List ℕ) (from word bit : ℕ) (clear : Clear rows from (word 
       by_cases (dec_lt q (word * 64)) (λ g. clear q h g)
       (λ g. let e : q / 64 ≡ word = omega arith in rw e (not-true _ (lowest_below (λ l. not (has_bit (get_or rows word 0) l)) low (64 - low) (q % 64) (omega arith) (omega (arith, found)))))
 
-  pub clear_word : (bit < 64 → ⊥) → Clear rows from ((word + 1) * 64)
+  pub clear_word : bit ≡ 64 → Clear rows from ((word + 1) * 64)
   clear_word h = clear_upto ((word + 1) * 64) (omega arith) (omega arith)
 
   pub next_here : word < 4 → bit < 64 → word * 64 + bit ≡ lowest (λ p. not (placed rows p)) from (256 - from)

@@ -23,7 +23,7 @@ pub enum Worth {
     True,
 }
 
-// The byte for a row that waits for no link: links are below 64.
+// The byte that is told of a row that waits for no link: links are below 64.
 pub const NO_LINK: u8 = 255;
 
 // A set of condition rows, 64 a word, the highest row first.
@@ -47,16 +47,16 @@ fn is_in(rows: &Rows, row: u8) -> bool
     (rows[(place / 64) as usize] >> (place % 64)) % 2 == 1
 }
 
-// The first bit of a word from one on that is set; 64 where there is none.
-fn first_bit(word: u64, from: usize) -> usize
+// The first bit of a word from one on that is set.
+fn first_bit(word: u64, from: usize) -> Option<usize>
     requires { from < 64 }
-    ensures { result ≡ lowest (λ l. not (has_bit word l)) from (64 - from) }
+    ensures { MatchOption result (64 ≡ lowest (λ l. not (has_bit word l)) from (64 - from)) (λ l. (l < 64) × (l ≡ lowest (λ l. not (has_bit word l)) from (64 - from))) }
 {
     let rest = word >> from;
     if rest == 0 {
-        return 64;
+        return None;
     }
-    from + u64::trailing_zeros(rest) as usize
+    Some(from + u64::trailing_zeros(rest) as usize)
 }
 
 // The first place from one on at which a row stands.
@@ -65,8 +65,7 @@ fn next(rows: &Rows, from: usize) -> Option<usize>
     ensures { MatchOption result (256 ≡ lowest (λ p. not (placed rows.now p)) from (256 - from)) (λ at. (at < 256) × (at ≡ lowest (λ p. not (placed rows.now p)) from (256 - from))) }
 {
     for word in from / 64..4 {
-        let bit = first_bit(rows[word], from.saturating_sub(word * 64));
-        if bit < 64 {
+        if let Some(bit) = first_bit(rows[word], from.saturating_sub(word * 64)) {
             return Some(word * 64 + bit);
         }
     }
@@ -101,7 +100,7 @@ fn visit(cs: &[u8], row: usize, links: &[u8; 64], low: u8, rows: &mut Rows) -> u
     }
 }
 
-// The lowest unset link reached from a row, 64 where there is none. Only rows that are reached are looked at, in falling order: an operand that is not below its row is never come to.
+// The lowest unset link reached from a row; 64 where there is none, as `awaited_at` has it. Only rows that are reached are looked at, in falling order: an operand that is not below its row is never come to.
 fn awaited(cs: &[u8], row: u8, links: &[u8; 64]) -> u8
     requires { row * 4 + 4 ≤ length cs.now }
     ensures { result ≡ awaited_at cs.now row (links_in links.now) }
