@@ -3,21 +3,21 @@
 
 #![tactic(auto)]
 
-ghost use Rattle.std.specs.Prelude.{◌≡◌, ◌<◌, ◌≤◌, length, take};
+ghost use Rattle.std.specs.Prelude.{◌≤◌};
 
 use codec::SizeAnswer;
 use sheet::Head;
 use state::{State, StepKind};
 use std::io::Read;
 
-// The file has ended: no number of four bytes is this great.
-pub const END: usize = 4294967296;
-
 // More than the rows of any table take, and more than any case lends.
 pub const SPACE: usize = 8192;
 
 // What each byte of a lent buffer is before the call.
 pub const BLANK: u8 = 170;
+
+// How many cases of a file are tried at most.
+const MOST: u64 = 100000;
 
 // The call, its argument, and how many bytes of buffer to lend.
 #[derive(Clone, Copy)]
@@ -27,235 +27,201 @@ pub struct Asked {
     pub room: usize,
 }
 
-// The numbers of a table, and how many bytes of terms and of conditions are lent with it.
+// The numbers of a table, its terms and its conditions.
 #[derive(Clone, Copy)]
-pub struct Given {
+pub struct Table<'a> {
     pub head: Head,
-    pub terms: usize,
-    pub conditions: usize,
+    pub terms: &'a [u8],
+    pub conditions: &'a [u8],
 }
 
-// What a case tells: number and place of the refusal; or 0 and 0, then a word and two values, 0 where it has none.
-#[derive(Clone, Copy)]
-pub struct Told {
-    pub number: u8,
-    pub place: usize,
+// A word and two values, 0 where it has none.
+#[derive(Clone, Copy, PartialEq, Eq)]
+pub struct Said {
     pub word: u8,
     pub x: usize,
     pub y: usize,
 }
 
-pub fn wide(x: u8) -> usize
-    ensures { result < 256 }
-{
-    x as usize
+// Number and place of a refusal.
+pub type Refused = (u8, usize);
+
+// A file of cases; of each field, nothing where the file ends before.
+#[derive(Drop)]
+pub struct Cases<R> {
+    file: R,
 }
 
-// Reads until the buffer is full, the file ends or a read fails, and tells how many bytes were put at the start of the buffer.
-pub fn read_full(file: &mut impl Read, buffer: &mut [u8]) -> usize
-    ensures { result ≤ length buffer.new }
-{
-    let mut size = 0;
-    while size < buffer.len() {
-        match file.read(&mut buffer[size..]) {
-            Ok(0) => return size,
-            Ok(count) => size += count,
-            Err(_) => return size,
+impl<R: Read> Cases<R> {
+    pub fn new(file: R) -> Cases<R> {
+        Cases { file }
+    }
+
+    // How many cases agree, and how many there are; a case is told how long its input is, and one that the file ends in does not agree.
+    pub fn tally<Agrees: Fn(&mut Cases<R>, usize) -> Option<bool>>(
+        &mut self,
+        agrees: Agrees,
+    ) -> (u64, u64)
+        requires { Agrees.IsAlwaysCallable agrees }
+    {
+        let mut agreed = 0;
+        for tried in 0..MOST {
+            let Some(size) = self.four() else {
+                return (agreed, tried);
+            };
+            if agrees(self, size).unwrap_or(false) {
+                agreed += 1;
+            }
+        }
+        (agreed, MOST)
+    }
+
+    fn bytes<const N: usize>(&mut self) -> Option<[u8; N]> {
+        let mut bytes = [0; N];
+        self.file.read_exact(&mut bytes).ok()?;
+        Some(bytes)
+    }
+
+    pub fn byte(&mut self) -> Option<u8> {
+        Some(self.bytes::<1>()?[0])
+    }
+
+    pub fn two(&mut self) -> Option<usize> {
+        Some(u16::from_le_bytes(self.bytes()?) as usize)
+    }
+
+    pub fn four(&mut self) -> Option<usize> {
+        Some(u32::from_le_bytes(self.bytes()?) as usize)
+    }
+
+    // The next text of that length, at the start of the buffer; nothing is read where it does not fit.
+    pub fn text<'a>(&mut self, size: usize, buffer: &'a mut [u8]) -> Option<&'a [u8]> {
+        if buffer.len() < size {
+            return None;
+        }
+        let text = &mut buffer[..size];
+        self.file.read_exact(text).ok()?;
+        Some(text)
+    }
+
+    pub fn asked(&mut self) -> Option<Asked> {
+        Some(Asked {
+            call: self.byte()?,
+            argument: self.four()?,
+            room: self.four()?,
+        })
+    }
+
+    // A state; each of its counts is one byte.
+    pub fn state(&mut self) -> Option<State> {
+        let mode = self.byte()?;
+        let acts = self.byte()?;
+        let unset = self.byte()?;
+        let marks = self.bytes()?;
+        let links = self.bytes()?;
+        Some(State {
+            mode,
+            marks,
+            links,
+            acts,
+            unset,
+        })
+    }
+
+    // A table, its rows in two buffers. Of a form (1 byte) and the length of names (2) this engine's tables know nothing: they are passed over.
+    pub fn table<'a>(
+        &mut self,
+        terms: &'a mut [u8; SPACE],
+        conditions: &'a mut [u8; SPACE],
+    ) -> Option<Table<'a>> {
+        let evaluation = self.byte()?;
+        let m = self.two()?;
+        let n = self.two()?;
+        let k = self.two()?;
+        self.byte()?;
+        let terms_size = self.two()?;
+        let conditions_size = self.two()?;
+        self.two()?;
+        Some(Table {
+            head: Head {
+                evaluation,
+                m,
+                n,
+                k,
+            },
+            terms: self.text(terms_size, terms)?,
+            conditions: self.text(conditions_size, conditions)?,
+        })
+    }
+
+    // Number and place of a refusal; 0 and 0 where nothing is refused.
+    pub fn refusal(&mut self) -> Option<Result<(), Refused>> {
+        match (self.byte()?, self.four()?) {
+            (0, 0) => Some(Ok(())),
+            refused => Some(Err(refused)),
         }
     }
-    size
-}
 
-// The next byte, or 0 at the end.
-pub fn byte(file: &mut impl Read) -> u8 {
-    let mut b = [0; 1];
-    read_full(file, &mut b);
-    b[0]
-}
-
-// The next number of two bytes.
-pub fn two(file: &mut impl Read) -> usize {
-    let mut b = [0; 2];
-    read_full(file, &mut b);
-    wide(b[0]) + 256 * wide(b[1])
-}
-
-// The next number of four bytes, or END at the end.
-pub fn four(file: &mut impl Read) -> usize {
-    let mut b = [0; 4];
-    if read_full(file, &mut b) < 4 {
-        return END;
+    // What a call that fills a lent buffer answers; the size is there on refusal too.
+    pub fn size(&mut self) -> Option<Result<usize, Refused>> {
+        let refusal = self.refusal()?;
+        let size = self.four()?;
+        Some(refusal.map(|_| size))
     }
-    wide(b[0]) + 256 * (wide(b[1]) + 256 * (wide(b[2]) + 256 * wide(b[3])))
-}
 
-// The next text of that length, at the start of the buffer; nothing is read where it does not fit.
-pub fn read_text(file: &mut impl Read, size: usize, text: &mut [u8]) -> usize
-    ensures { (result ≤ length text.new) × (result ≡ length (take result text.new)) }
-{
-    if text.len() < size {
-        return 0;
+    // A lent buffer, beside the bytes of the case.
+    pub fn buffer_agrees(&mut self, out: &[u8]) -> Option<bool> {
+        let mut buffer = [0; SPACE];
+        let expected = self.text(out.len(), &mut buffer)?;
+        Some(expected == out)
     }
-    read_full(file, &mut text[..size])
-}
 
-pub fn read_asked(file: &mut impl Read) -> Asked {
-    let call = byte(file);
-    let argument = four(file);
-    let room = four(file);
-    Asked {
-        call,
-        argument,
-        room,
-    }
-}
-
-// A state; each of its counts is one byte.
-pub fn read_state(file: &mut impl Read) -> State {
-    let mode = byte(file);
-    let acts = byte(file);
-    let unset = byte(file);
-    let mut marks = [0; 256];
-    read_full(file, &mut marks);
-    let mut links = [0; 64];
-    read_full(file, &mut links);
-    State {
-        mode,
-        marks,
-        links,
-        acts,
-        unset,
-    }
-}
-
-// A table up to its rows, which follow. Of a form (1 byte) and the length of names (2) this engine's tables know nothing: they are passed over.
-pub fn read_given(file: &mut impl Read) -> Given {
-    let evaluation = byte(file);
-    let m = two(file);
-    let n = two(file);
-    let k = two(file);
-    byte(file);
-    let terms = two(file);
-    let conditions = two(file);
-    two(file);
-    Given {
-        head: Head {
-            evaluation,
-            m,
-            n,
-            k,
-        },
-        terms,
-        conditions,
+    // The answer of a call that fills a lent buffer, with the buffer as the call left it.
+    pub fn size_agrees(&mut self, answer: SizeAnswer, out: &[u8]) -> Option<bool> {
+        let expected = self.size()?;
+        let same = self.buffer_agrees(out)?;
+        Some((told_size(answer) == expected) & same)
     }
 }
 
 // The first bytes; all of them where they are fewer.
 pub fn first(s: &[u8], count: usize) -> &[u8] {
-    if s.len() < count {
-        return s;
-    }
-    &s[..count]
+    &s[..count.min(s.len())]
 }
 
 // That much of a buffer; all of it where it is shorter.
 pub fn lend(out: &mut [u8], room: usize) -> &mut [u8] {
-    if out.len() < room {
-        return out;
-    }
+    let room = room.min(out.len());
     &mut out[..room]
 }
 
-// A refusal tells no word.
-pub fn told_refused(number: u8, place: usize) -> Told {
-    Told {
-        number,
-        place,
-        word: 0,
-        x: 0,
-        y: 0,
-    }
-}
-
-// A word where nothing is refused.
-pub fn told_word(word: u8, x: usize, y: usize) -> Told {
-    Told {
-        number: 0,
-        place: 0,
-        word,
-        x,
-        y,
-    }
-}
-
 // What a step is, or why there is none: the words are 1 act, 2 set, 3 open, 4 clean.
-pub fn told_kind(kind: StepKind) -> Told {
-    match kind {
-        StepKind::Act(activity) => told_word(1, wide(activity), 0),
-        StepKind::Set(link, value) => told_word(2, wide(link), wide(value)),
-        StepKind::Open => told_word(3, 0, 0),
-        StepKind::Clean => told_word(4, 0, 0),
-        StepKind::Refused(number, place) => told_refused(number, place),
-    }
-}
-
-// Whether two cases tell the same.
-pub fn same_told(a: Told, b: Told) -> bool {
-    (a.number == b.number) & (a.place == b.place) & (a.word == b.word) & (a.x == b.x) & (a.y == b.y)
-}
-
-fn same_numbers(a: State, b: State) -> bool {
-    (a.mode == b.mode) & (a.acts == b.acts) & (a.unset == b.unset)
-}
-
-fn same_links(a: State, b: State) -> bool {
-    a.links == b.links
+pub fn told_kind(kind: StepKind) -> Result<Said, Refused> {
+    let (word, x, y) = match kind {
+        StepKind::Act(activity) => (1, activity, 0),
+        StepKind::Set(link, value) => (2, link, value),
+        StepKind::Open => (3, 0, 0),
+        StepKind::Clean => (4, 0, 0),
+        StepKind::Refused(number, place) => return Err((number, place)),
+    };
+    Ok(Said {
+        word,
+        x: x as usize,
+        y: y as usize,
+    })
 }
 
 pub fn same_state(a: State, b: State) -> bool {
-    same_numbers(a, b) & (a.marks == b.marks) & same_links(a, b)
+    (a.mode == b.mode)
+        & (a.acts == b.acts)
+        & (a.unset == b.unset)
+        & (a.marks == b.marks)
+        & (a.links == b.links)
 }
 
-// The state that has to come back: that of the case; where it is refused, the one that was handed in.
-pub fn state_after(file: &mut impl Read, number: u8, s: State) -> State {
-    if number != 0 {
-        return s;
-    }
-    read_state(file)
-}
-
-// A lent buffer, beside the bytes of the case.
-pub fn buffer_agrees(file: &mut impl Read, out: &[u8]) -> bool {
-    let mut expected = [0; SPACE];
-    let length = read_text(file, out.len(), &mut expected);
-    &expected[..length] == out
-}
-
-// Number, place and size; all are there on refusal too.
-pub fn read_size(file: &mut impl Read) -> Told {
-    let number = byte(file);
-    let place = four(file);
-    let x = four(file);
-    Told {
-        number,
-        place,
-        word: 0,
-        x,
-        y: 0,
-    }
-}
-
-// The answer of a call that fills a lent buffer: the size is its value.
-pub fn told_size(answer: SizeAnswer) -> Told {
+pub fn told_size(answer: SizeAnswer) -> Result<usize, Refused> {
     match answer {
-        SizeAnswer::Size(size) => told_word(0, size, 0),
-        SizeAnswer::Refused(number, place) => told_refused(number, place),
+        SizeAnswer::Size(size) => Ok(size),
+        SizeAnswer::Refused(number, place) => Err((number, place)),
     }
-}
-
-// Such an answer, with the buffer as the call left it.
-pub fn size_agrees(file: &mut impl Read, answer: SizeAnswer, out: &[u8]) -> bool {
-    let expected = read_size(file);
-    let same = buffer_agrees(file, out);
-    same_told(told_size(answer), expected) & same
 }

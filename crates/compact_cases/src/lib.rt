@@ -2,84 +2,50 @@
 
 #![tactic(auto)]
 
-use cases::{first, four, same_state};
-use codec::{SheetAnswer, SizeAnswer};
-use sheet::Head;
+use cases::{Cases, Table, first, same_state, told_size};
+use codec::SheetAnswer;
 use state::State;
 use std::io::Read;
 
-// The sheet and the state come out as they went in.
-fn made_again(sheet: &[u8], s: State, h: Head) -> bool {
+// A sheet and a state, compacted, come out as they went in.
+fn made_again(sheet: &[u8], s: State) -> bool {
+    let SheetAnswer::Sheet(h) = sheet_engine::read_sheet(sheet) else {
+        return false;
+    };
+    let terms = sheet_engine::terms_part(sheet);
+    let conditions = sheet_engine::conditions_part(sheet);
     let mut buffer = [cases::BLANK; cases::SPACE];
-    let again = sheet_engine::compact(
-        s,
-        h,
-        sheet_engine::terms_part(sheet),
-        sheet_engine::conditions_part(sheet),
-        &mut buffer,
-    );
-    let answer = again.answer;
-    let state = again.state;
-    match answer {
-        SizeAnswer::Size(size) => (first(&buffer, size) == sheet) & same_state(state, s),
-        SizeAnswer::Refused(number, place) => false,
+    let again = sheet_engine::compact(s, h, terms, conditions, &mut buffer);
+    match told_size(again.answer) {
+        Ok(size) => (first(&buffer, size) == sheet) & same_state(again.state, s),
+        Err(_) => false,
     }
 }
 
-fn sheet_agrees(sheet: &[u8], s: State) -> bool {
-    match sheet_engine::read_sheet(sheet) {
-        SheetAnswer::Sheet(h) => made_again(sheet, s, h),
-        SheetAnswer::Refused(_, _) => false,
-    }
-}
-
-fn made_agrees(answer: SizeAnswer, out: &[u8], s: State) -> bool {
-    match answer {
-        SizeAnswer::Size(size) => sheet_agrees(first(out, size), s),
-        SizeAnswer::Refused(_, _) => true,
-    }
-}
-
-fn compact_agrees(
-    file: &mut impl Read,
-    s: State,
-    h: Head,
-    ts: &[u8],
-    cs: &[u8],
-    room: usize,
-) -> bool {
+fn compact_agrees(case: &mut Cases<impl Read>, s: State, t: Table, room: usize) -> Option<bool> {
     let mut buffer = [cases::BLANK; cases::SPACE];
     let out = cases::lend(&mut buffer, room);
-    let made = sheet_engine::compact(s, h, ts, cs, out);
-    let answer = made.answer;
-    let state = made.state;
-    let expected = cases::read_size(file);
-    let same = cases::buffer_agrees(file, out);
-    let after = cases::state_after(file, expected.number, s);
-    cases::same_told(cases::told_size(answer), expected)
-        & same
-        & same_state(state, after)
-        & made_agrees(answer, out, state)
+    let made = sheet_engine::compact(s, t.head, t.terms, t.conditions, out);
+    let answer = told_size(made.answer);
+    let expected = case.size()?;
+    let same = case.buffer_agrees(out)?;
+    let after = if expected.is_ok() { case.state()? } else { s };
+    Some(
+        (answer == expected)
+            & same
+            & same_state(made.state, after)
+            & answer.map_or(true, |size| made_again(first(out, size), made.state)),
+    )
 }
 
 // The rest of a case, whose input begins here.
-pub fn agrees(file: &mut impl Read) -> bool {
-    let asked = cases::read_asked(file);
-    let s = cases::read_state(file);
-    let given = cases::read_given(file);
-    let mut t = [0; cases::SPACE];
-    let terms = cases::read_text(file, given.terms, &mut t);
-    let mut c = [0; cases::SPACE];
-    let conditions = cases::read_text(file, given.conditions, &mut c);
+pub fn agrees(case: &mut Cases<impl Read>) -> Option<bool> {
+    let asked = case.asked()?;
+    let s = case.state()?;
+    let mut terms = [0; cases::SPACE];
+    let mut conditions = [0; cases::SPACE];
+    let t = case.table(&mut terms, &mut conditions)?;
     // the length of the output
-    four(file);
-    (asked.call == 1)
-        & compact_agrees(
-            file,
-            s,
-            given.head,
-            &t[..terms],
-            &c[..conditions],
-            asked.room,
-        )
+    case.four()?;
+    Some((asked.call == 1) & compact_agrees(case, s, t, asked.room)?)
 }

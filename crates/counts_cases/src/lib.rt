@@ -2,10 +2,7 @@
 
 #![tactic(auto)]
 
-ghost use Rattle.std.specs.Prelude.{◌≤◌, length};
-
-use cases::{Told, byte, four, same_told, told_kind, told_refused, told_word, two, wide};
-use sheet::Head;
+use cases::{Cases, Refused, Table, told_kind};
 use state::State;
 use std::io::Read;
 
@@ -13,124 +10,67 @@ use std::io::Read;
 const RUN: usize = 1024;
 
 // The two counts of a state, beside two bytes of the case.
-fn counts_agree(s: State, acts: u8, unset: u8) -> bool {
-    (sheet_engine::acts_left(s) == acts) & (sheet_engine::links_unset(s) == unset)
+fn counts_agree(s: State, counts: &[u8]) -> bool {
+    counts == [sheet_engine::acts_left(s), sheet_engine::links_unset(s)].as_slice()
 }
 
-// ... beside those of the state that a run comes to after so many steps.
-fn state_agrees(s: State, counts: &[u8], steps: usize) -> bool {
-    if counts.len() / 2 <= steps {
-        return false;
-    }
-    counts_agree(s, counts[steps * 2], counts[steps * 2 + 1])
-}
-
-// What a run tells: number and place of its first refusal; as its word whether all counts agree; as its value of how many states they are.
-fn told_run(refusal: Told, agree: bool, states: usize) -> Told {
-    Told {
-        number: refusal.number,
-        place: refusal.place,
-        word: agree as u8,
-        x: states,
-        y: 0,
-    }
-}
-
-// The run of these rows from a fresh state, up to the first that is refused.
-fn run(fresh: State, h: Head, ts: &[u8], cs: &[u8], rows: &[u8], counts: &[u8]) -> Told
-    requires { length rows.now ≤ 1024 }
-{
+// The run of these rows from a fresh state, up to the first that is refused: why it is, and whether there are two counts for each state, and they agree.
+fn run(fresh: State, t: Table, rows: &[u8], counts: &[u8]) -> (Result<(), Refused>, bool) {
     let mut s = fresh;
-    let mut agree = state_agrees(s, counts, 0);
-    for (steps, row) in rows.iter().enumerate() {
-        let next = sheet_engine::take_step(s, h, ts, cs, wide(*row));
-        if !next.ok {
-            return told_run(told_kind(next.answer), agree, steps + 1);
+    let mut pairs = counts.chunks_exact(2);
+    let mut agree = pairs.next().is_some_and(|pair| counts_agree(s, pair));
+    for row in rows {
+        let next = sheet_engine::take_step(s, t.head, t.terms, t.conditions, *row as usize);
+        if let Err(refused) = told_kind(next.answer) {
+            return (Err(refused), agree & pairs.next().is_none());
         }
         s = next.state;
-        agree &= state_agrees(s, counts, steps + 1);
+        agree &= pairs.next().is_some_and(|pair| counts_agree(s, pair));
     }
-    told_run(told_word(0, 0, 0), agree, rows.len() + 1)
+    (Ok(()), agree & pairs.next().is_none())
 }
 
 // The run from the start, which may be refused.
-fn started(mode: u8, h: Head, ts: &[u8], cs: &[u8], rows: &[u8], counts: &[u8]) -> Told
-    requires { length rows.now ≤ 1024 }
-{
-    let begun = sheet_engine::start(h, ts, cs, mode);
-    let fresh = begun.state;
+fn started(mode: u8, t: Table, rows: &[u8], counts: &[u8]) -> (Result<(), Refused>, bool) {
+    let begun = sheet_engine::start(t.head, t.terms, t.conditions, mode);
     if begun.number != 0 {
-        return told_run(told_refused(begun.number, begun.place), true, 0);
+        return (Err((begun.number, begun.place)), counts.is_empty());
     }
-    run(fresh, h, ts, cs, rows, counts)
+    run(begun.state, t, rows, counts)
 }
 
-// What an output of that length has behind number and place, which take 5 bytes of it.
-fn counts_told(length: usize) -> usize {
-    if length < 5 {
-        return 0;
-    }
-    length - 5
+// A run: its rows and its table; as output number and place, which take 5 bytes, then two counts for each state. A number that is no byte is no mode, as is 255.
+fn run_agrees(case: &mut Cases<impl Read>, argument: usize) -> Option<bool> {
+    let size = case.two()?;
+    let mut chosen = [0; RUN];
+    let rows = case.text(size, &mut chosen)?;
+    let mut terms = [0; cases::SPACE];
+    let mut conditions = [0; cases::SPACE];
+    let t = case.table(&mut terms, &mut conditions)?;
+    let length = case.four()?;
+    let refusal = case.refusal()?;
+    let mut told = [0; RUN];
+    let counts = case.text(length.saturating_sub(5), &mut told)?;
+    let mode = u8::try_from(argument).unwrap_or(255);
+    Some(started(mode, t, rows, counts) == (refusal, true))
 }
 
-// The output of a run, whose rows and table are read: number, place, then two counts for each state.
-fn run_agrees(file: &mut impl Read, mode: u8, h: Head, ts: &[u8], cs: &[u8], rows: &[u8]) -> bool
-    requires { length rows.now ≤ 1024 }
-{
-    let length = four(file);
-    let refusal = told_refused(byte(file), four(file));
-    let mut c = [0; RUN];
-    let size = cases::read_text(file, counts_told(length), &mut c);
-    let expected = told_run(refusal, true, size / 2);
-    same_told(started(mode, h, ts, cs, rows, &c[..size]), expected)
-}
-
-fn call_run(file: &mut impl Read, mode: u8) -> bool {
-    let mut r = [0; RUN];
-    let size = two(file);
-    let rows = cases::read_text(file, size, &mut r);
-    let given = cases::read_given(file);
-    let mut t = [0; cases::SPACE];
-    let terms = cases::read_text(file, given.terms, &mut t);
-    let mut c = [0; cases::SPACE];
-    let conditions = cases::read_text(file, given.conditions, &mut c);
-    run_agrees(
-        file,
-        mode,
-        given.head,
-        &t[..terms],
-        &c[..conditions],
-        &r[..rows],
-    )
-}
-
-// No call of these is refused: number and place are 0.
-fn call_questions(file: &mut impl Read) -> bool {
-    let s = cases::read_state(file);
+// No call of these is refused.
+fn questions_agree(case: &mut Cases<impl Read>) -> Option<bool> {
+    let s = case.state()?;
     // the length of the output
-    four(file);
-    let number = byte(file);
-    let place = four(file);
-    let acts = byte(file);
-    let unset = byte(file);
-    (number == 0) & (place == 0) & counts_agree(s, acts, unset)
-}
-
-// A mode of one byte; a greater number is no mode, as is 255.
-fn mode_of(argument: usize) -> u8 {
-    if argument < 256 {
-        return argument as u8;
-    }
-    255
+    case.four()?;
+    let refusal = case.refusal()?;
+    let counts = [case.byte()?, case.byte()?];
+    Some(refusal.is_ok() & counts_agree(s, &counts))
 }
 
 // The rest of a case, whose input begins here.
-pub fn agrees(file: &mut impl Read) -> bool {
-    let asked = cases::read_asked(file);
-    let call = asked.call;
-    match call {
-        1 => call_run(file, mode_of(asked.argument)),
-        2 => call_questions(file),
-        _ => false,
+pub fn agrees(case: &mut Cases<impl Read>) -> Option<bool> {
+    let asked = case.asked()?;
+    match asked.call {
+        1 => run_agrees(case, asked.argument),
+        2 => questions_agree(case),
+        _ => Some(false),
     }
 }

@@ -2,111 +2,67 @@
 
 #![tactic(auto)]
 
-use cases::{first, four, wide};
-use codec::{SheetAnswer, SizeAnswer};
-use sheet::Head;
+use cases::{Cases, Table, first, told_size};
+use codec::SheetAnswer;
 use state::{State, StepKind};
 use std::io::Read;
 
-// No row has this number.
-const NONE: usize = 256;
-
 // The row with the lowest step.
-fn lowest(s: State, h: Head, ts: &[u8], cs: &[u8]) -> usize {
+fn lowest(s: State, t: Table) -> Option<u8> {
     let mut rows = [0; 256];
-    match sheet_engine::list_steps(s, h, ts, cs, &mut rows) {
-        SizeAnswer::Size(count) => {
-            if count == 0 {
-                return NONE;
-            }
-            wide(rows[0])
-        }
-        SizeAnswer::Refused(_, _) => NONE,
+    let answer = sheet_engine::list_steps(s, t.head, t.terms, t.conditions, &mut rows);
+    match told_size(answer) {
+        Ok(0) | Err(_) => None,
+        Ok(_) => Some(rows[0]),
     }
 }
 
-// The activities done so far, as the digits of a number, with the step's if it has one.
-fn noted(done: usize, kind: StepKind) -> usize {
-    match kind {
-        StepKind::Act(activity) => (done % 100) * 10 + wide(activity),
-        StepKind::Set(_, _) => done,
-        StepKind::Open => done,
-        StepKind::Clean => done,
-        StepKind::Refused(_, _) => 0,
-    }
-}
-
-// What is done from a state on.
-fn done_from(fresh: State, h: Head, ts: &[u8], cs: &[u8]) -> usize {
-    let mut s = fresh;
+// What is done from a start in a mode, by no more steps than a sheet has rows: the activities, as the digits of a number.
+fn done(mode: u8, t: Table) -> usize {
+    let mut s = sheet_engine::start(t.head, t.terms, t.conditions, mode).state;
     let mut done = 0;
-    for _ in 0..NONE {
-        let row = lowest(s, h, ts, cs);
-        if row == NONE {
+    for _ in 0..256 {
+        let Some(row) = lowest(s, t) else {
             return done;
+        };
+        let next = sheet_engine::take_step(s, t.head, t.terms, t.conditions, row as usize);
+        match next.answer {
+            StepKind::Act(activity) => done = (done % 100) * 10 + activity as usize,
+            StepKind::Refused(_, _) => done = 0,
+            _ => {}
         }
-        let next = sheet_engine::take_step(s, h, ts, cs, row);
-        done = noted(done, next.answer);
         s = next.state;
     }
     done
 }
 
-fn does(mode: u8, h: Head, ts: &[u8], cs: &[u8]) -> usize {
-    let begun = sheet_engine::start(h, ts, cs, mode);
-    done_from(begun.state, h, ts, cs)
-}
-
 fn shows(sheet: &[u8]) -> bool {
-    match sheet_engine::read_sheet(sheet) {
-        SheetAnswer::Sheet(h) => {
-            let ts = sheet_engine::terms_part(sheet);
-            let cs = sheet_engine::conditions_part(sheet);
-            (does(1, h, ts, cs) == 12) & (does(0, h, ts, cs) == 1)
-        }
-        SheetAnswer::Refused(_, _) => false,
-    }
+    let SheetAnswer::Sheet(head) = sheet_engine::read_sheet(sheet) else {
+        return false;
+    };
+    let t = Table {
+        head,
+        terms: sheet_engine::terms_part(sheet),
+        conditions: sheet_engine::conditions_part(sheet),
+    };
+    (done(1, t) == 12) & (done(0, t) == 1)
 }
 
-fn sheet_agrees(answer: SizeAnswer, out: &[u8]) -> bool {
-    match answer {
-        SizeAnswer::Size(size) => shows(first(out, size)),
-        SizeAnswer::Refused(_, _) => true,
-    }
-}
-
-fn damage_agrees(
-    file: &mut impl Read,
-    h: Head,
-    ts: &[u8],
-    cs: &[u8],
-    row: usize,
-    room: usize,
-) -> bool {
+fn damage_agrees(case: &mut Cases<impl Read>, t: Table, row: usize, room: usize) -> Option<bool> {
     let mut buffer = [cases::BLANK; cases::SPACE];
     let out = cases::lend(&mut buffer, room);
-    let answer = sheet_engine::damage_sheet(h, ts, cs, row, out);
-    let same = cases::size_agrees(file, answer, out);
-    same & sheet_agrees(answer, out)
+    let answer = sheet_engine::damage_sheet(t.head, t.terms, t.conditions, row, out);
+    let same = case.size_agrees(answer, out)?;
+    Some(same & told_size(answer).map_or(true, |size| shows(first(out, size))))
 }
 
 // The rest of a case, whose input begins here.
-pub fn agrees(file: &mut impl Read) -> bool {
-    let asked = cases::read_asked(file);
-    let given = cases::read_given(file);
-    let mut t = [0; cases::SPACE];
-    let terms = cases::read_text(file, given.terms, &mut t);
-    let mut c = [0; cases::SPACE];
-    let conditions = cases::read_text(file, given.conditions, &mut c);
+pub fn agrees(case: &mut Cases<impl Read>) -> Option<bool> {
+    let asked = case.asked()?;
+    let mut terms = [0; cases::SPACE];
+    let mut conditions = [0; cases::SPACE];
+    let t = case.table(&mut terms, &mut conditions)?;
     // the length of the output
-    four(file);
-    (asked.call == 1)
-        & damage_agrees(
-            file,
-            given.head,
-            &t[..terms],
-            &c[..conditions],
-            asked.argument,
-            asked.room,
-        )
+    case.four()?;
+    Some((asked.call == 1) & damage_agrees(case, t, asked.argument, asked.room)?)
 }

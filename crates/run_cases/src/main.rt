@@ -2,6 +2,7 @@
 
 #![tactic(auto)]
 
+use cases::Cases;
 use std::fs::File;
 use std::io;
 use std::io::Read;
@@ -9,9 +10,6 @@ use std::rt::Files;
 
 // More than any text of a case of the program.
 const TEXT: usize = 65792;
-
-// How many cases of a file are tried at most.
-const MOST: u64 = 100000;
 
 // What answers an input: the program; the calls on a state; the calls on a table; the call that tells how a state stands, alone or with the one that tells what it waits for; the counts of a state; the call that compacts.
 #[derive(Clone, Copy)]
@@ -25,62 +23,41 @@ enum Kind {
     Compacted,
 }
 
-fn prints(input: &[u8], expected: &[u8]) -> bool {
+// The rest of a case of the program, whose input begins here.
+fn program_agrees(case: &mut Cases<impl Read>, size: usize) -> Option<bool> {
+    let mut given = [0; TEXT];
+    let input = case.text(size, &mut given)?;
+    let told = case.four()?;
+    let mut wanted = [0; TEXT];
+    let expected = case.text(told, &mut wanted)?;
     let mut out = [0; printing::LONGEST];
     let length = printing::print(input, &mut out);
-    &out[..length] == expected
+    Some(&out[..length] == expected)
 }
 
-// The rest of a case of the program, whose input begins here.
-fn program_agrees(file: &mut impl Read, given: usize) -> bool {
-    let mut input = [0; TEXT];
-    let read = cases::read_text(file, given, &mut input);
-    let told = cases::four(file);
-    let mut expected = [0; TEXT];
-    let length = cases::read_text(file, told, &mut expected);
-    prints(&input[..read], &expected[..length])
-}
-
-// Whether the next case agrees; nothing at the end.
-fn next_case(file: &mut impl Read, kind: Kind) -> Option<bool> {
-    let given = cases::four(file);
-    if given == cases::END {
-        return None;
+fn agrees(case: &mut Cases<impl Read>, size: usize, kind: Kind) -> Option<bool> {
+    match kind {
+        Kind::Program => program_agrees(case, size),
+        Kind::States => state_cases::agrees(case),
+        Kind::Tables => table_cases::agrees(case),
+        Kind::Standing => standing_cases::agrees(case, false),
+        Kind::Waiting => standing_cases::agrees(case, true),
+        Kind::Counts => counts_cases::agrees(case),
+        Kind::Compacted => compact_cases::agrees(case),
     }
-    let agrees = match kind {
-        Kind::Program => program_agrees(file, given),
-        Kind::States => state_cases::agrees(file),
-        Kind::Tables => table_cases::agrees(file),
-        Kind::Standing => standing_cases::agrees(file, false),
-        Kind::Waiting => standing_cases::agrees(file, true),
-        Kind::Counts => counts_cases::agrees(file),
-        Kind::Compacted => compact_cases::agrees(file),
-    };
-    Some(agrees)
 }
 
-fn say(rt: &impl Print, agreed: u64, tried: u64) -> io::Result<()> {
+fn try_cases(rt: &impl Print, file: impl Read + Drop, kind: Kind) -> io::Result<()> {
+    let (agreed, tried) = Cases::new(file).tally(|case, size| agrees(case, size, kind));
     println!(rt; "{agreed} of {tried} cases agree")
-}
-
-fn try_cases(rt: &impl Print, file: &mut impl Read, kind: Kind) -> io::Result<()> {
-    let mut agreed = 0;
-    for tried in 0..MOST {
-        match next_case(file, kind) {
-            None => return say(rt, agreed, tried),
-            Some(true) => agreed += 1,
-            Some(false) => {}
-        }
-    }
-    say(rt, agreed, MOST)
 }
 
 // A file that cannot be opened has no cases.
 fn try_file(rt: &(impl Files + Print), name: &str, path: &str, kind: Kind) -> io::Result<()> {
     print!(rt; "{name}: ")?;
     match File::open(rt, path) {
-        Ok(mut file) => try_cases(rt, &mut file, kind),
-        Err(_) => try_cases(rt, &mut io::empty(), kind),
+        Ok(file) => try_cases(rt, file, kind),
+        Err(_) => try_cases(rt, io::empty(), kind),
     }
 }
 

@@ -2,42 +2,21 @@
 
 #![tactic(auto)]
 
+use cases::Cases;
 use std::fs::File;
 use std::io;
 use std::io::Read;
 use std::rt::Files;
 
-// How many cases are tried at most.
-const MOST: u64 = 100000;
-
-// Whether the next case agrees; nothing at the end.
-fn next_case(file: &mut impl Read) -> Option<bool> {
-    if cases::four(file) == cases::END {
-        return None;
-    }
-    Some(damage_cases::agrees(file))
-}
-
-fn say(rt: &impl Print, agreed: u64, tried: u64) -> io::Result<()> {
+fn try_cases(rt: &impl Print, file: impl Read + Drop) -> io::Result<()> {
+    let (agreed, tried) = Cases::new(file).tally(|case, _| damage_cases::agrees(case));
     println!(rt; "damage, request 9: {agreed} of {tried} cases agree")
-}
-
-fn try_cases(rt: &impl Print, file: &mut impl Read) -> io::Result<()> {
-    let mut agreed = 0;
-    for tried in 0..MOST {
-        match next_case(file) {
-            None => return say(rt, agreed, tried),
-            Some(true) => agreed += 1,
-            Some(false) => {}
-        }
-    }
-    say(rt, agreed, MOST)
 }
 
 // A file that cannot be opened has no cases.
 fn main(rt: HostRuntime) -> io::Result<()> {
     match File::open(&rt, "damage.cases") {
-        Ok(mut file) => try_cases(&rt, &mut file),
-        Err(_) => try_cases(&rt, &mut io::empty()),
+        Ok(file) => try_cases(&rt, file),
+        Err(_) => try_cases(&rt, io::empty()),
     }
 }

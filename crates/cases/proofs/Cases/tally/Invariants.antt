@@ -1,5 +1,5 @@
 use Rattle.std.proofs.Common.{◌≤◌}
-use Rattle.run_cases.proofs.try_cases.Given as goal
+use Rattle.cases.proofs.Cases.tally.Given as goal
 
 -- no more cases agree than were tried
 abbrev pub invariant-loop-tried : goal.invariant-loop-tried
