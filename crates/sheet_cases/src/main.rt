@@ -2,97 +2,45 @@
 
 #![tactic(auto)]
 
-use codec::{SheetAnswer, SizeAnswer};
-use samples::{put_acts, put_largest, put_links, put_outs, put_row, put_typical};
-use sheet::Head;
+ghost use Rattle.std.specs.Prelude.{◌<◌, ◌≤◌};
+
+use samples::Sample;
+use sheet::{Head, Refusal};
 use std::io;
 
-fn wide(x: u8) -> usize {
-    x as usize
-}
-
-fn say(rt: &impl Print, text: &str) -> io::Result<()> {
-    print!(rt; "{text}")
-}
-
-fn say_number(rt: &impl Print, x: usize) -> io::Result<()> {
-    print!(rt; " {x}")
-}
-
-fn say_refused(rt: &impl Print, number: u8, place: usize) -> io::Result<()> {
-    say(rt, ": refused")?;
-    say_number(rt, wide(number))?;
-    say_number(rt, place)?;
-    say(rt, "\n")
-}
-
-fn say_head(rt: &impl Print, h: Head) -> io::Result<()> {
-    say(rt, ": evaluation")?;
-    say_number(rt, wide(h.evaluation))?;
-    say(rt, ", links")?;
-    say_number(rt, h.m)?;
-    say(rt, ", rows")?;
-    say_number(rt, h.n)?;
-    say(rt, ", conditions")?;
-    say_number(rt, h.k)?;
-    say(rt, "\n")
+fn say_refused(rt: &impl Print, refusal: Refusal) -> io::Result<()> {
+    let number = refusal.number;
+    let place = refusal.place;
+    println!(rt; ": refused {number} {place}")
 }
 
 fn read(rt: &impl Print, name: &str, s: &[u8]) -> io::Result<()> {
-    say(rt, "read ")?;
-    say(rt, name)?;
+    print!(rt; "read {name}")?;
     match codec::read(s) {
-        SheetAnswer::Sheet(h) => say_head(rt, h),
-        SheetAnswer::Refused(number, place) => say_refused(rt, number, place),
+        Ok(h) => println!(rt;
+            ": evaluation {}, links {}, rows {}, conditions {}",
+            h.evaluation, h.m, h.n, h.k
+        ),
+        Err(refusal) => say_refused(rt, refusal),
     }
 }
 
 fn judge(rt: &impl Print, name: &str, h: Head, ts: &[u8], cs: &[u8]) -> io::Result<()> {
-    say(rt, "judge ")?;
-    say(rt, name)?;
-    let r = judge::judge(h, ts, cs);
-    if r.number == 0 {
-        return say(rt, ": accepted\n");
-    }
-    say_refused(rt, r.number, r.place)
-}
-
-fn judge_rows(
-    rt: &impl Print,
-    name: &str,
-    h: Head,
-    ts: &[u8; 1024],
-    cs: &[u8; 1024],
-) -> io::Result<()> {
-    judge(rt, name, h, ts, cs)
-}
-
-fn read_first(rt: &impl Print, name: &str, s: &[u8], size: usize) -> io::Result<()> {
-    if size <= s.len() {
-        read(rt, name, &s[..size])?;
-    }
-    Ok(())
-}
-
-fn say_written(rt: &impl Print, name: &str, answer: SizeAnswer, out: &[u8]) -> io::Result<()> {
-    say(rt, "write ")?;
-    say(rt, name)?;
-    match answer {
-        SizeAnswer::Size(size) => {
-            say(rt, ": size")?;
-            say_number(rt, size)?;
-            say(rt, "\n")?;
-            read_first(rt, name, out, size)
-        }
-        SizeAnswer::Refused(number, place) => say_refused(rt, number, place),
+    print!(rt; "judge {name}")?;
+    match judge::judge(h, ts, cs) {
+        Ok(()) => println!(rt; ": accepted"),
+        Err(refusal) => say_refused(rt, refusal),
     }
 }
 
-fn write_first(h: Head, ts: &[u8], cs: &[u8], out: &mut [u8], lent: usize) -> SizeAnswer {
-    if lent < out.len() {
-        return codec::write(h, ts, cs, &mut out[..lent]);
-    }
-    codec::write(h, ts, cs, out)
+fn judge_sample(rt: &impl Print, name: &str, h: Head, s: &Sample) -> io::Result<()> {
+    judge(
+        rt,
+        name,
+        h,
+        s.terms.as_flattened(),
+        s.conditions.as_flattened(),
+    )
 }
 
 // Written to the first `lent` bytes of a buffer, and what was written read back.
@@ -100,13 +48,22 @@ fn write(
     rt: &impl Print,
     name: &str,
     h: Head,
-    ts: &[u8; 1024],
-    cs: &[u8; 1024],
+    s: &Sample,
     out: &mut [u8; 2067],
     lent: usize,
-) -> io::Result<()> {
-    let answer = write_first(h, ts, cs, out, lent);
-    say_written(rt, name, answer, out)
+) -> io::Result<()>
+    requires { lent ≤ 2067 }
+{
+    print!(rt; "write {name}")?;
+    let ts = s.terms.as_flattened();
+    let cs = s.conditions.as_flattened();
+    match codec::write(h, ts, cs, &mut out[..lent]) {
+        Ok(size) => {
+            println!(rt; ": size {size}")?;
+            read(rt, name, &out[..size.min(2067)])
+        }
+        Err(refusal) => say_refused(rt, refusal),
+    }
 }
 
 fn head(m: usize, n: usize, k: usize) -> Head {
@@ -118,25 +75,12 @@ fn head(m: usize, n: usize, k: usize) -> Head {
     }
 }
 
-fn read_small(rt: &impl Print, name: &str, s: &[u8; 22]) -> io::Result<()> {
-    read(rt, name, s)
-}
-
 // The smallest sheet.
 const SMALLEST: [u8; 22] = [
     3, 1, 16, 0, 2, 0, 2, 18, 0, 4, 0, 3, 22, 0, 0, 0, 0, 0, 0, 0, 0, 0,
 ];
 
-// The smallest sheet with one byte changed.
-fn changed(rt: &impl Print, name: &str, at: usize, x: u8) -> io::Result<()> {
-    let mut s = SMALLEST;
-    if at < 22 {
-        s[at] = x;
-    }
-    read_small(rt, name, &s)
-}
-
-// 1 to 3, of a sheet.
+// 1 to 3, of a sheet; of the later ones each is the smallest with one byte changed.
 fn sheets(rt: &impl Print) -> io::Result<()> {
     let s = SMALLEST;
     let long = [0; 2067];
@@ -145,19 +89,32 @@ fn sheets(rt: &impl Print) -> io::Result<()> {
     read(rt, "22 bytes", &s)?;
     read(rt, "2066 zeros", &long[..2066])?;
     read(rt, "2067 zeros", &long)?;
-    changed(rt, "count 2", 0, 2)?;
-    changed(rt, "settings of 3 bytes", 4, 3)?;
-    changed(rt, "settings at 16 + 16 * 256", 3, 16)?;
-    changed(rt, "terms of kind 3", 6, 3)?;
-    changed(rt, "terms of 6 bytes", 9, 6)?;
-    changed(rt, "terms of 4 + 1024 bytes", 10, 4)?;
-    changed(rt, "conditions at 23", 12, 23)?;
-    changed(rt, "conditions past the end", 14, 4)?;
-    changed(rt, "evaluation 1", 16, 1)?;
-    changed(rt, "evaluation 3", 16, 3)?;
-    changed(rt, "evaluation 4", 16, 4)?;
-    changed(rt, "64 links", 17, 64)?;
-    changed(rt, "65 links", 17, 65)
+    for (name, at, x) in [
+        ("count 2", 0, 2),
+        ("settings of 3 bytes", 4, 3),
+        ("settings at 16 + 16 * 256", 3, 16),
+        ("terms of kind 3", 6, 3),
+        ("terms of 6 bytes", 9, 6),
+        ("terms of 4 + 1024 bytes", 10, 4),
+        ("conditions at 23", 12, 23),
+        ("conditions past the end", 14, 4),
+        ("evaluation 1", 16, 1),
+        ("evaluation 3", 16, 3),
+        ("evaluation 4", 16, 4),
+        ("64 links", 17, 64),
+        ("65 links", 17, 65),
+    ] {
+        changed(rt, name, at, x)?;
+    }
+    Ok(())
+}
+
+fn changed(rt: &impl Print, name: &str, at: usize, x: u8) -> io::Result<()> {
+    let mut s = SMALLEST;
+    if at < 22 {
+        s[at] = x;
+    }
+    read(rt, name, &s)
 }
 
 // 1, of a table; what lies beyond its rows is no part of it.
@@ -187,91 +144,77 @@ fn sizes(rt: &impl Print) -> io::Result<()> {
 }
 
 // 4
-fn condition(
-    rt: &impl Print,
-    name: &str,
-    row: u8,
-    kind: u8,
-    a: u8,
-    b: u8,
-    c: u8,
-) -> io::Result<()> {
-    let ts = [0; 1024];
-    let mut cs = [0; 1024];
-    put_row(&mut cs, row, kind, a, b, c);
-    judge_rows(rt, name, head(2, 1, 256), &ts, &cs)
+fn conditions(rt: &impl Print) -> io::Result<()> {
+    for (name, row, bytes) in [
+        ("condition 0 of kind 7", 0, [7, 0, 0, 0]),
+        ("condition 0 with link 2 of 2", 0, [2, 2, 0, 0]),
+        ("condition 0 with link 1 of 2", 0, [2, 1, 0, 0]),
+        ("condition 1, FALSE with a spare byte", 1, [0, 0, 0, 1]),
+        ("condition 1 with itself as operand", 1, [3, 0, 1, 0]),
+        ("condition 255 with itself as operand", 255, [6, 255, 0, 0]),
+        (
+            "condition 255 with 254 and 0 as operands",
+            255,
+            [6, 254, 0, 0],
+        ),
+    ] {
+        condition(rt, name, row, bytes)?;
+    }
+    Ok(())
 }
 
-fn conditions(rt: &impl Print) -> io::Result<()> {
-    condition(rt, "condition 0 of kind 7", 0, 7, 0, 0, 0)?;
-    condition(rt, "condition 0 with link 2 of 2", 0, 2, 2, 0, 0)?;
-    condition(rt, "condition 0 with link 1 of 2", 0, 2, 1, 0, 0)?;
-    condition(rt, "condition 1, FALSE with a spare byte", 1, 0, 0, 0, 1)?;
-    condition(rt, "condition 1 with itself as operand", 1, 3, 0, 1, 0)?;
-    condition(
-        rt,
-        "condition 255 with itself as operand",
-        255,
-        6,
-        255,
-        0,
-        0,
-    )?;
-    condition(
-        rt,
-        "condition 255 with 254 and 0 as operands",
-        255,
-        6,
-        254,
-        0,
-        0,
-    )
+fn condition(rt: &impl Print, name: &str, row: u8, bytes: [u8; 4]) -> io::Result<()> {
+    let mut s = Sample::new();
+    s.conditions[row as usize] = bytes;
+    judge_sample(rt, name, head(2, 1, 256), &s)
 }
 
 // 5: of three rows, the one after `row` ACT rows
-fn term(rt: &impl Print, name: &str, row: u8, kind: u8, a: u8, b: u8, c: u8) -> io::Result<()> {
-    let mut ts = [0; 1024];
-    let cs = [0; 1024];
-    put_acts(&mut ts, 0, row);
-    put_row(&mut ts, row, kind, a, b, c);
-    judge_rows(rt, name, head(1, 3, 1), &ts, &cs)
+fn terms(rt: &impl Print) -> io::Result<()> {
+    for (name, row, bytes) in [
+        ("row 0 of kind 6", 0, [6, 0, 0, 0]),
+        ("row 0, NIL with a spare byte", 0, [0, 0, 0, 1]),
+        ("row 0 with itself as child", 0, [1, 0, 0, 0]),
+        ("row 0 with link 1 of 1", 0, [2, 1, 0, 1]),
+        ("row 0 with value 2", 0, [2, 0, 2, 1]),
+        ("row 0 with condition 1 of 1", 0, [3, 1, 1, 0]),
+        ("row 1 with child 3 of 3", 1, [1, 0, 3, 0]),
+        ("row 1 with row 0 as child", 1, [5, 0, 2, 0]),
+        ("row 1 with row 2 as child", 1, [3, 0, 2, 0]),
+    ] {
+        term(rt, name, row, bytes)?;
+    }
+    Ok(())
 }
 
-fn terms(rt: &impl Print) -> io::Result<()> {
-    term(rt, "row 0 of kind 6", 0, 6, 0, 0, 0)?;
-    term(rt, "row 0, NIL with a spare byte", 0, 0, 0, 0, 1)?;
-    term(rt, "row 0 with itself as child", 0, 1, 0, 0, 0)?;
-    term(rt, "row 0 with link 1 of 1", 0, 2, 1, 0, 1)?;
-    term(rt, "row 0 with value 2", 0, 2, 0, 2, 1)?;
-    term(rt, "row 0 with condition 1 of 1", 0, 3, 1, 1, 0)?;
-    term(rt, "row 1 with child 3 of 3", 1, 1, 0, 3, 0)?;
-    term(rt, "row 1 with row 0 as child", 1, 5, 0, 2, 0)?;
-    term(rt, "row 1 with row 2 as child", 1, 3, 0, 2, 0)
+fn term(rt: &impl Print, name: &str, row: u8, bytes: [u8; 4]) -> io::Result<()> {
+    let mut s = Sample::new();
+    s.put_acts(0, row);
+    s.terms[row as usize] = bytes;
+    judge_sample(rt, name, head(1, 3, 1), &s)
 }
 
 // 6
 fn trees(rt: &impl Print) -> io::Result<()> {
-    let mut ts = [0; 1024];
-    let cs = [0; 1024];
-    judge_rows(rt, "row 1 not named", head(0, 2, 0), &ts, &cs)?;
-    put_row(&mut ts, 0, 5, 1, 1, 0);
-    judge_rows(rt, "row 1 named twice", head(0, 2, 0), &ts, &cs)?;
-    put_row(&mut ts, 0, 5, 1, 2, 0);
-    judge_rows(rt, "rows 1 and 2 named once", head(0, 3, 0), &ts, &cs)?;
-    judge_rows(rt, "row 3 not named", head(0, 4, 0), &ts, &cs)?;
-    put_row(&mut ts, 1, 1, 0, 2, 0);
-    judge_rows(rt, "row 2 named twice", head(0, 3, 0), &ts, &cs)?;
-    put_acts(&mut ts, 0, 254);
-    judge_rows(rt, "row 255 not named", head(0, 256, 0), &ts, &cs)
+    let mut s = Sample::new();
+    judge_sample(rt, "row 1 not named", head(0, 2, 0), &s)?;
+    s.terms[0] = [5, 1, 1, 0];
+    judge_sample(rt, "row 1 named twice", head(0, 2, 0), &s)?;
+    s.terms[0] = [5, 1, 2, 0];
+    judge_sample(rt, "rows 1 and 2 named once", head(0, 3, 0), &s)?;
+    judge_sample(rt, "row 3 not named", head(0, 4, 0), &s)?;
+    s.terms[1] = [1, 0, 2, 0];
+    judge_sample(rt, "row 2 named twice", head(0, 3, 0), &s)?;
+    s.put_acts(0, 254);
+    judge_sample(rt, "row 255 not named", head(0, 256, 0), &s)
 }
 
 // 7
 fn two_sources(rt: &impl Print, name: &str, link: u8) -> io::Result<()> {
-    let mut ts = [0; 1024];
-    let cs = [0; 1024];
-    put_outs(&mut ts, 0, 64);
-    put_row(&mut ts, 64, 2, link, 0, 65);
-    judge_rows(rt, name, head(64, 66, 0), &ts, &cs)
+    let mut s = Sample::new();
+    s.put_outs(0, 64);
+    s.terms[64] = [2, link, 0, 65];
+    judge_sample(rt, name, head(64, 66, 0), &s)
 }
 
 fn sources(rt: &impl Print) -> io::Result<()> {
@@ -281,162 +224,80 @@ fn sources(rt: &impl Print) -> io::Result<()> {
 
 // 13: an OUT row, a JOIN on LINK 0, LINK 1 or the OR of both, and an OUT row behind it
 fn waits(rt: &impl Print, name: &str, before: u8, condition: u8, behind: u8) -> io::Result<()> {
-    let mut ts = [0; 1024];
-    let mut cs = [0; 1024];
-    put_row(&mut ts, 0, 2, before, 1, 1);
-    put_row(&mut ts, 1, 3, condition, 2, 0);
-    put_row(&mut ts, 2, 2, behind, 1, 3);
-    put_links(&mut cs, 2);
-    judge_rows(rt, name, head(3, 4, 3), &ts, &cs)
+    let mut s = Sample::new();
+    s.terms[0] = [2, before, 1, 1];
+    s.terms[1] = [3, condition, 2, 0];
+    s.terms[2] = [2, behind, 1, 3];
+    s.put_links(2);
+    judge_sample(rt, name, head(3, 4, 3), &s)
 }
 
-// ... and a JOIN that reaches links 0 to `last`, after an OUT row for each but the last
-fn join_short(rt: &impl Print, name: &str, last: u8) -> io::Result<()> {
-    let mut ts = [0; 1024];
-    let mut cs = [0; 1024];
-    if last < 64 {
-        put_outs(&mut ts, 0, last);
-        put_links(&mut cs, last + 1);
-        put_row(&mut ts, last, 3, 2 * last, last + 1, 0);
-        let l = last as usize;
-        judge_rows(rt, name, head(l + 1, l + 2, 2 * l + 1), &ts, &cs)?;
-    }
-    Ok(())
+// A JOIN, at a row, that reaches links 0 to `last`; from another row on so many OUT rows, one for each link from 0 on.
+fn join(rt: &impl Print, name: &str, last: u8, row: u8, first: u8, outs: u8) -> io::Result<()>
+    requires link_given { last < 64 }
+    requires row_given { row < 255 }
+{
+    let mut s = Sample::new();
+    s.put_outs(first, outs);
+    s.put_links(last + 1);
+    s.terms[row as usize] = [3, 2 * last, row + 1, 0];
+    let l = last as usize;
+    judge_sample(rt, name, head(l + 1, outs as usize + 2, 2 * l + 1), &s)
 }
 
 fn wanted(rt: &impl Print) -> io::Result<()> {
-    waits(rt, "a JOIN on link 1, which no row sets", 0, 1, 2)?;
-    waits(
-        rt,
-        "a JOIN on links 0 and 1, of which no row sets 1",
-        0,
-        2,
-        2,
-    )?;
-    waits(rt, "a JOIN on link 1, which a row behind it sets", 0, 1, 1)?;
-    waits(rt, "a JOIN on link 0, and link 1 wanted by none", 0, 0, 2)?;
-    waits(
-        rt,
-        "a JOIN on link 1, which no row sets, and two set 0",
-        0,
-        1,
-        0,
-    )?;
-    join_short(rt, "a JOIN after 8 links, which reaches 9", 8)
+    for (name, before, condition, behind) in [
+        ("a JOIN on link 1, which no row sets", 0, 1, 2),
+        ("a JOIN on links 0 and 1, of which no row sets 1", 0, 2, 2),
+        ("a JOIN on link 1, which a row behind it sets", 0, 1, 1),
+        ("a JOIN on link 0, and link 1 wanted by none", 0, 0, 2),
+        (
+            "a JOIN on link 1, which no row sets, and two set 0",
+            0,
+            1,
+            0,
+        ),
+    ] {
+        waits(rt, name, before, condition, behind)?;
+    }
+    join(rt, "a JOIN after 8 links, which reaches 9", 8, 8, 0, 8)
 }
 
 // 8: links 0 to `last`, an OUT row for each, and a JOIN that reaches them all, after or before the OUT rows
-fn join_last(rt: &impl Print, name: &str, last: u8) -> io::Result<()> {
-    let mut ts = [0; 1024];
-    let mut cs = [0; 1024];
-    if last < 64 {
-        put_outs(&mut ts, 0, last + 1);
-        put_links(&mut cs, last + 1);
-        put_row(&mut ts, last + 1, 3, 2 * last, last + 2, 0);
-        let l = last as usize;
-        judge_rows(rt, name, head(l + 1, l + 3, 2 * l + 1), &ts, &cs)?;
-    }
-    Ok(())
-}
-
-fn join_first(rt: &impl Print, name: &str, last: u8) -> io::Result<()> {
-    let mut ts = [0; 1024];
-    let mut cs = [0; 1024];
-    if last < 64 {
-        put_row(&mut ts, 0, 3, 2 * last, 1, 0);
-        put_outs(&mut ts, 1, last + 1);
-        put_links(&mut cs, last + 1);
-        let l = last as usize;
-        judge_rows(rt, name, head(l + 1, l + 3, 2 * l + 1), &ts, &cs)?;
-    }
-    Ok(())
-}
-
 fn links(rt: &impl Print) -> io::Result<()> {
-    join_last(rt, "a JOIN after 8 links that it reaches", 7)?;
-    join_last(rt, "a JOIN after 9 links that it reaches", 8)?;
-    join_first(rt, "a JOIN before 8 links that it reaches", 7)?;
-    join_first(rt, "a JOIN before 9 links that it reaches", 8)
+    join(rt, "a JOIN after 8 links that it reaches", 7, 8, 0, 8)?;
+    join(rt, "a JOIN after 9 links that it reaches", 8, 9, 0, 9)?;
+    join(rt, "a JOIN before 8 links that it reaches", 7, 0, 1, 8)?;
+    join(rt, "a JOIN before 9 links that it reaches", 8, 0, 1, 9)
 }
 
 // 12, and the limits of n, k and m
 fn writing(rt: &impl Print) -> io::Result<()> {
-    let mut ts = [0; 1024];
-    let mut cs = [0; 1024];
+    let mut s = Sample::new();
     let mut out = [170; 2067];
-    write(
-        rt,
-        "the smallest to 21 bytes",
-        head(0, 1, 0),
-        &ts,
-        &cs,
-        &mut out,
-        21,
-    )?;
-    write(
-        rt,
-        "the smallest to 22 bytes",
-        head(0, 1, 0),
-        &ts,
-        &cs,
-        &mut out,
-        22,
-    )?;
-    write(
-        rt,
-        "the smallest to more",
-        head(0, 1, 0),
-        &ts,
-        &cs,
-        &mut out,
-        2067,
-    )?;
-    say(rt, "past it")?;
-    say_number(rt, wide(out[22]))?;
-    say(rt, "\n")?;
-    write(rt, "a refused table", head(0, 2, 0), &ts, &cs, &mut out, 21)?;
-    put_typical(&mut ts, &mut cs);
-    write(
-        rt,
-        "a typical table",
-        head(3, 24, 6),
-        &ts,
-        &cs,
-        &mut out,
-        2067,
-    )?;
-    put_largest(&mut ts, &mut cs);
-    write(
-        rt,
-        "the largest to 2065 bytes",
-        head(64, 256, 256),
-        &ts,
-        &cs,
-        &mut out,
-        2065,
-    )?;
-    write(
-        rt,
-        "the largest to 2066 bytes",
-        head(64, 256, 256),
-        &ts,
-        &cs,
-        &mut out,
-        2066,
-    )?;
-    put_acts(&mut ts, 0, 255);
+    let smallest = head(0, 1, 0);
+    write(rt, "the smallest to 21 bytes", smallest, &s, &mut out, 21)?;
+    write(rt, "the smallest to 22 bytes", smallest, &s, &mut out, 22)?;
+    write(rt, "the smallest to more", smallest, &s, &mut out, 2067)?;
+    println!(rt; "past it {}", out[22])?;
+    write(rt, "a refused table", head(0, 2, 0), &s, &mut out, 21)?;
+    s.put_typical();
+    write(rt, "a typical table", head(3, 24, 6), &s, &mut out, 2067)?;
+    s.put_largest();
+    let largest = head(64, 256, 256);
+    write(rt, "the largest to 2065 bytes", largest, &s, &mut out, 2065)?;
+    write(rt, "the largest to 2066 bytes", largest, &s, &mut out, 2066)?;
+    s.put_acts(0, 255);
+    let acts = head(0, 256, 0);
     write(
         rt,
         "256 rows, no condition, no link",
-        head(0, 256, 0),
-        &ts,
-        &cs,
+        acts,
+        &s,
         &mut out,
         2067,
     )?;
-    say(rt, "past the largest")?;
-    say_number(rt, wide(out[2066]))?;
-    say(rt, "\n")
+    println!(rt; "past the largest {}", out[2066])
 }
 
 fn main(rt: HostRuntime) -> io::Result<()> {
