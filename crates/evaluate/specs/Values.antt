@@ -2,8 +2,16 @@
 use Rattle.std.specs.Prelude.{ℕ, ◌*◌, ◌/◌, ◌%◌, ◌^◌, ◌<◌, ◌≡◌, cond, List, ltb, get_or, length}
 use Rattle.laws.specs.Up.{below}
 use Rattle.calculus.specs.Status.{Unset, Links}
+use Rattle.conditions.specs.Conditions as conditions
 use Rattle.conditions.specs.Numbers.{digit, undigit}
 use Rattle.sheet.specs.Table.{eval_of}
+use Rattle.evaluate.specs.declared.Evaluation.{Evaluation}
+use Rattle.evaluate.specs.declared.Evaluation.TheVariants.{Strict, Lazy}
+
+-- what the evaluations of the source name
+unfoldable pub meant : Evaluation → conditions.Evaluation
+meant Strict = conditions.Strict
+meant Lazy = conditions.Lazy
 
 -- one byte a link, 0 unset, 1 false, any other true; a link from 64 on is unset
 unfoldable pub links_in : List ℕ → Links

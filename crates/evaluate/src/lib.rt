@@ -8,11 +8,11 @@ ghost use Rattle.conditions.specs.Numbers.{digit, undigit};
 ghost use Rattle.conditions.specs.ByRows.{strictly, operate, value_by};
 ghost use Rattle.sheet.specs.Table.{condition_row_at, lazy_of, evaluation_of, eval_of};
 ghost use Rattle.rows.specs.Conditions.{operator_of};
-ghost use Rattle.evaluate.specs.Values.{links_in, Evaluated, value_in};
+ghost use Rattle.evaluate.specs.Values.{meant, links_in, Evaluated, value_in};
 
 use rows::condition::{ConditionRow, Operator, condition_row};
 
-// Two bits a condition row, four rows a byte.
+// Two bits a condition row, four rows a byte; a value is a number, 0 unset, 1 false, 2 true, as `value_in` has it.
 pub type Values = [u8; 64];
 
 // An operator's values: left operand unset, false, true; right operand in the same order.
@@ -30,6 +30,26 @@ pub fn is_lazy(evaluation: u8) -> bool
     ensures { result ≡ lazy_of evaluation }
 {
     (evaluation == 1) | (evaluation == 3)
+}
+
+#[derive(Clone, Copy)]
+pub enum Evaluation {
+    Strict,
+    Lazy,
+}
+
+impl Evaluation {
+    // That of a number of the head.
+    #[tactic(auto, unfolding(crate::specs::Values::meant, sheet::specs::Table::evaluation_of))]
+    pub fn of(number: u8) -> Evaluation
+        ensures { meant result ≡ evaluation_of number }
+    {
+        if is_lazy(number) {
+            Evaluation::Lazy
+        } else {
+            Evaluation::Strict
+        }
+    }
 }
 
 // A byte as a value: 0 unset, 1 false, any other true.
@@ -63,14 +83,13 @@ fn strictly(o: Operator, l: u8, r: u8) -> u8
     }
 }
 
-#[tactic(auto, unfolding(sheet::specs::Table::evaluation_of, conditions::specs::ByRows::operate))]
-fn operate(evaluation: u8, o: Operator, l: u8, r: u8) -> u8
-    ensures { result ≡ digit (operate (evaluation_of evaluation) (operator_of o) (undigit l) (undigit r)) }
+#[tactic(auto, unfolding(crate::specs::Values::meant, conditions::specs::ByRows::operate))]
+fn operate(evaluation: Evaluation, o: Operator, l: u8, r: u8) -> u8
+    ensures { result ≡ digit (operate (meant evaluation) (operator_of o) (undigit l) (undigit r)) }
 {
-    if is_lazy(evaluation) {
-        by_table(o, l, r)
-    } else {
-        strictly(o, l, r)
+    match evaluation {
+        Evaluation::Strict => strictly(o, l, r),
+        Evaluation::Lazy => by_table(o, l, r),
     }
 }
 
@@ -103,9 +122,9 @@ fn put(vals: &mut Values, row: usize, x: u8)
 
 // The value of a row, from those of other rows.
 #[tactic(auto, unfolding(conditions::specs::ByRows::value_by, conditions::specs::Numbers::digit, rows::specs::Conditions::row_of))]
-fn value_by(evaluation: u8, cs: &[u8], row: usize, links: &[u8; 64], vals: &Values) -> u8
+fn value_by(evaluation: Evaluation, cs: &[u8], row: usize, links: &[u8; 64], vals: &Values) -> u8
     requires { row * 4 + 4 ≤ length cs.now }
-    ensures { result ≡ digit (value_by (evaluation_of evaluation) (condition_row_at cs.now row) (links_in links.now) (λ j. undigit (value_in vals.now j))) }
+    ensures { result ≡ digit (value_by (meant evaluation) (condition_row_at cs.now row) (links_in links.now) (λ j. undigit (value_in vals.now j))) }
 {
     match condition_row(cs, row) {
         ConditionRow::False => 1,
@@ -125,9 +144,10 @@ pub fn values(evaluation: u8, cs: &[u8], k: usize, links: &[u8; 64]) -> Values
     requires { (k * 4 ≤ length cs.now) × (k ≤ 256) }
     ensures { Evaluated evaluation cs.now (links_in links.now) k result }
 {
+    let meant = Evaluation::of(evaluation);
     let mut vals = [85; 64];
     for i in 0..k {
-        let v = value_by(evaluation, cs, i, links, &vals);
+        let v = value_by(meant, cs, i, links, &vals);
         put(&mut vals, i, v);
     }
     vals

@@ -12,7 +12,6 @@ use Rattle.conditions.specs.Meaning.{opposite}
 use Rattle.conditions.specs.ByRows.{strictly, operate}
 use Rattle.conditions.specs.Failure.{is_true, is_false}
 use Rattle.conditions.proofs.Operators.{every₂, every₂_is}
-use Rattle.sheet.specs.Table.{lazy_of, evaluation_of}
 use Rattle.reach.specs.Masks.{has_bit}
 use Rattle.reach.proofs.Bits.{bit_and_law, bit_or_law, bit_none, bit_full}
 use Rattle.lanes.specs.declared.Lanes.{Lanes}
@@ -108,29 +107,20 @@ module _ (E : Evaluation) (o : Operator) (F G K : Formula) where
   abbrev fits : Value → Value → Bool → Bool → Bool
   fits x y k l = true_test x y k l && false_test x y k l && kept_test x y k l
 
-  operated : all fits ≡ true → (e : ℕ) → evaluation_of e ≡ E → (a b : Lanes) → Operated e o a b (record { trues = word F a b; falses = word G a b; kept = word K a b })
+  operated : all fits ≡ true → (a b : Lanes) → Operated E o a b (record { trues = word F a b; falses = word G a b; kept = word K a b })
   unfolding Operated Shows
-  operated s e q a b x y x' y' p r j h =
+  operated s a b x y x' y' p r j h =
       let k = has_bit a.kept j in
       let l = has_bit b.kept j in
       let m = lane a b x y x' y' p r j h in
       let z = all_is fits s (x j) (y j) k l in
-      let tf = and_l (true_test (x j) (y j) k l && false_test (x j) (y j) k l) (kept_test (x j) (y j) k l) z in
-      rw q (
+      let tf = and_l (true_test (x j) (y j) k l && false_test (x j) (y j) k l) (kept_test (x j) (y j) k l) z in (
         m F ∙ same_is _ _ (and_l (true_test (x j) (y j) k l) (false_test (x j) (y j) k l) tf),
         m G ∙ same_is _ _ (and_r (true_test (x j) (y j) k l) (false_test (x j) (y j) k l) tf),
         ap₂ (operate E o) (p j h).2 (r j h).2
             ∙ alike_is _ _ (and_r (true_test (x j) (y j) k l && false_test (x j) (y j) k l) (kept_test (x j) (y j) k l) z)
             ∙ ap (λ (t : Bool). cond t (operate E o (x j) (y j)) Unset) (sym (m K)),
       )
-
-pub lazy_is : (e : ℕ) → lazy_of e ≡ true → evaluation_of e ≡ Lazy
-unfolding evaluation_of
-lazy_is e h = rw h refl
-
-pub strict_is : (e : ℕ) → lazy_of e ≡ false → evaluation_of e ≡ Strict
-unfolding evaluation_of
-strict_is e h = rw h refl
 
 -- the lanes where both operands are kept
 abbrev pub both_kept : Formula
@@ -140,15 +130,13 @@ both_kept = meet lk rk
 abbrev pub decided : Formula → Formula → Formula
 decided F G = join (meet lk (join rk F)) (meet rk G)
 
-module _ (e : ℕ) (lazy : evaluation_of e ≡ Lazy) where
-  pub and_lazy : (a b : Lanes) → Operated e AND a b (record { trues = word (meet lt rt) a b; falses = word (join lf rf) a b; kept = word (decided lf rf) a b })
-  unfolding or table operate
-  and_lazy = operated Lazy AND (meet lt rt) (join lf rf) (decided lf rf) refl e lazy
+pub and_lazy : (a b : Lanes) → Operated Lazy AND a b (record { trues = word (meet lt rt) a b; falses = word (join lf rf) a b; kept = word (decided lf rf) a b })
+unfolding or table operate
+and_lazy = operated Lazy AND (meet lt rt) (join lf rf) (decided lf rf) refl
 
-module _ (e : ℕ) (strict : evaluation_of e ≡ Strict) where
-  pub and_strict : (a b : Lanes) → Operated e AND a b (record { trues = word (meet lt rt) a b; falses = word (join (meet lf (join rt rf)) (meet lt rf)) a b; kept = word both_kept a b })
-  unfolding or table operate strictly
-  and_strict = operated Strict AND (meet lt rt) (join (meet lf (join rt rf)) (meet lt rf)) both_kept refl e strict
+pub and_strict : (a b : Lanes) → Operated Strict AND a b (record { trues = word (meet lt rt) a b; falses = word (join (meet lf (join rt rf)) (meet lt rf)) a b; kept = word both_kept a b })
+unfolding or table operate strictly
+and_strict = operated Strict AND (meet lt rt) (join (meet lf (join rt rf)) (meet lt rf)) both_kept refl
 
 -- the lanes where both are set: those where they are the same, and those where not
 abbrev pub equals : Formula
@@ -158,13 +146,10 @@ abbrev pub differs : Formula
 differs = join (meet lt rf) (meet lf rt)
 
 -- EQ is the same under both evaluations
-eq_either : (E : Evaluation) (e : ℕ) → evaluation_of e ≡ E → (a b : Lanes) → Operated e EQ a b (record { trues = word equals a b; falses = word differs a b; kept = word both_kept a b })
+pub eq_lanes : (e : Evaluation) (a b : Lanes) → Operated e EQ a b (record { trues = word equals a b; falses = word differs a b; kept = word both_kept a b })
 unfolding or table operate strictly
-eq_either Strict = operated Strict EQ equals differs both_kept refl
-eq_either Lazy = operated Lazy EQ equals differs both_kept refl
-
-pub eq_lanes : (e : ℕ) (a b : Lanes) → Operated e EQ a b (record { trues = word equals a b; falses = word differs a b; kept = word both_kept a b })
-eq_lanes e = eq_either (evaluation_of e) e refl
+eq_lanes Strict = operated Strict EQ equals differs both_kept refl
+eq_lanes Lazy = operated Lazy EQ equals differs both_kept refl
 
 -- true and false exchanged
 shows_turned : (w : Lanes) (x x' : ℕ → Value) → Shows w x x' → Shows (turned w) (λ j. opposite (x j)) (λ j. opposite (x' j))
@@ -196,18 +181,16 @@ unfolding table operate strictly
 ne_opposite Strict x y = alike_is _ _ (every₂_is (λ x y. alike (opposite (operate Strict EQ x y)) (operate Strict NE x y)) refl x y)
 ne_opposite Lazy x y = alike_is _ _ (every₂_is (λ x y. alike (opposite (operate Lazy EQ x y)) (operate Lazy NE x y)) refl x y)
 
-module _ (e : ℕ) (a b r : Lanes) where
-  pub or_lanes : Operated e AND (turned a) (turned b) r → Operated e OR a b (turned r)
+module _ (E : Evaluation) (a b r : Lanes) where
+  pub or_lanes : Operated E AND (turned a) (turned b) r → Operated E OR a b (turned r)
   unfolding Operated
   or_lanes s x y x' y' p q =
-      let E = evaluation_of e in
       let w = s (λ j. opposite (x j)) (λ j. opposite (y j)) (λ j. opposite (x' j)) (λ j. opposite (y' j)) (shows_turned a x x' p) (shows_turned b y y' q) in
       shows_same _ _ _ _ _ (λ j. or_opposite E (x j) (y j)) (λ j. or_opposite E (x' j) (y' j)) (shows_turned r _ _ w)
 
-  pub ne_lanes : Operated e EQ a b r → Operated e NE a b (turned r)
+  pub ne_lanes : Operated E EQ a b r → Operated E NE a b (turned r)
   unfolding Operated
   ne_lanes s x y x' y' p q =
-      let E = evaluation_of e in
       shows_same _ _ _ _ _ (λ j. ne_opposite E (x j) (y j)) (λ j. ne_opposite E (x' j) (y' j)) (shows_turned r _ _ (s x y x' y' p q))
 
 -- constants

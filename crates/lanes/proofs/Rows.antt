@@ -12,7 +12,7 @@ use lib.Seq.{get_or-set_same, get_or-set_other}
 use Rattle.laws.specs.Up.{below}
 use Rattle.laws.proofs.Up.{below_in, below_out}
 use Rattle.calculus.specs.Status.{Value, Unset, False, True, Links}
-use Rattle.conditions.specs.Conditions.{FALSE, TRUE, LINK, OP}
+use Rattle.conditions.specs.Conditions.{Evaluation, FALSE, TRUE, LINK, OP}
 use Rattle.conditions.specs.Operators.{Operator}
 use Rattle.conditions.specs.ByRows.{value_by}
 use Rattle.conditions.specs.Failure.{is_true}
@@ -46,7 +46,7 @@ link_shows lt lf v l p j h = let q = p l j h in
     (q.0, q.1, low_true (v j l) ∙ ap (λ (t : Bool). cond t (v j l) Unset) (sym q.0 ∙ ap (λ (w : ℕ). has_bit w j) (sym (kept_true lt lf l))))
 
 -- a row of each kind
-module _ (e : ℕ) (lt lf : List ℕ) (table : List Lanes) where
+module _ (e : Evaluation) (lt lf : List ℕ) (table : List Lanes) where
   pub stepped_false : Stepped e FALSE lt lf table false_row
   unfolding Stepped value_by
   stepped_false v w w' p q = false_lanes
@@ -91,7 +91,7 @@ module _ (e : ℕ) (cs lt lf : List ℕ) where
         rw (full false_row 256 i h) (shows_same _ (λ j. False) (λ j. False) _ _ (λ j. none (v j)) (λ j. none (lowered (v j))) false_lanes));
   }
 
-  module _ (i : ℕ) (table : List Lanes) (g : Held e cs lt lf i table) (r : Lanes) (s : Stepped e (condition_row_at cs i) lt lf table r) where
+  module _ (i : ℕ) (table : List Lanes) (g : Held e cs lt lf i table) (r : Lanes) (s : Stepped (evaluation_of e) (condition_row_at cs i) lt lf table r) where
     -- the step at row i gives the row's value
     pub held_found : Valued e cs i lt lf r
     unfolding Stepped Valued

@@ -2,11 +2,11 @@
 use Rattle.std.specs.Prelude.{ℕ, ◌<◌, ◌≡◌, cond, List, ltb, get_or}
 use Rattle.calculus.specs.Status.{Value, Unset, Links}
 use Rattle.conditions.specs.Operators.{Operator}
-use Rattle.conditions.specs.Conditions.{ConditionRow}
+use Rattle.conditions.specs.Conditions.{ConditionRow, Evaluation}
 use Rattle.conditions.specs.ByRows.{operate, value_by}
 use Rattle.conditions.specs.Failure.{is_true, is_false}
 use Rattle.conditions.specs.Total.{lowered}
-use Rattle.sheet.specs.Table.{evaluation_of, eval_of}
+use Rattle.sheet.specs.Table.{eval_of}
 use Rattle.reach.specs.Masks.{has_bit}
 use Rattle.lanes.specs.declared.Lanes.{Lanes}
 
@@ -34,11 +34,11 @@ unfoldable pub RowsShow : List Lanes → (ℕ → ℕ → Value) → (ℕ → �
 RowsShow table val low = (i : ℕ) → i < 256 → Shows (get_or table i unset_lanes) (λ j. val j i) (λ j. low j i)
 
 -- What the functions give, whatever the words they are handed show.
-unfoldable pub Operated : ℕ → Operator → Lanes → Lanes → Lanes → Type 0
-Operated e o a b r = (x y x' y' : ℕ → Value) → Shows a x x' → Shows b y y' → Shows r (λ j. operate (evaluation_of e) o (x j) (y j)) (λ j. operate (evaluation_of e) o (x' j) (y' j))
+unfoldable pub Operated : Evaluation → Operator → Lanes → Lanes → Lanes → Type 0
+Operated e o a b r = (x y x' y' : ℕ → Value) → Shows a x x' → Shows b y y' → Shows r (λ j. operate e o (x j) (y j)) (λ j. operate e o (x' j) (y' j))
 
-unfoldable pub Stepped : ℕ → ConditionRow → List ℕ → List ℕ → List Lanes → Lanes → Type 0
-Stepped e N lt lf table r = (v : ℕ → Links) (w w' : ℕ → ℕ → Value) → LinksShow lt lf v → RowsShow table w w' → Shows r (λ j. value_by (evaluation_of e) N (v j) (w j)) (λ j. value_by (evaluation_of e) N (lowered (v j)) (w' j))
+unfoldable pub Stepped : Evaluation → ConditionRow → List ℕ → List ℕ → List Lanes → Lanes → Type 0
+Stepped e N lt lf table r = (v : ℕ → Links) (w w' : ℕ → ℕ → Value) → LinksShow lt lf v → RowsShow table w w' → Shows r (λ j. value_by e N (v j) (w j)) (λ j. value_by e N (lowered (v j)) (w' j))
 
 unfoldable pub Valued : ℕ → List ℕ → ℕ → List ℕ → List ℕ → Lanes → Type 0
 Valued e cs row lt lf r = (v : ℕ → Links) → LinksShow lt lf v → Shows r (λ j. eval_of e cs row (v j)) (λ j. eval_of e cs row (lowered (v j)))

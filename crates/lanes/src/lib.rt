@@ -2,12 +2,14 @@
 
 #![tactic(auto)]
 
-ghost use Rattle.std.specs.Prelude.{◌≡◌, ℕ, ◌+◌, ◌*◌, ◌<◌, ◌≤◌, length};
+ghost use Rattle.std.specs.Prelude.{◌≡◌, ◌+◌, ◌*◌, ◌<◌, ◌≤◌, length};
 ghost use Rattle.conditions.specs.Operators.{AND, EQ};
 ghost use Rattle.sheet.specs.Table.{condition_row_at};
 ghost use Rattle.rows.specs.Conditions.{operator_of};
+ghost use Rattle.evaluate.specs.Values.{meant};
 ghost use Rattle.lanes.specs.Lanes.{turned, link_lanes, Operated, Stepped, Valued};
 
+use evaluate::Evaluation;
 use rows::condition::{ConditionRow, Operator, condition_row};
 
 // The lanes that are true, those that are false, and those that keep their value with every false link unset. A lane that does not keep it is then unset.
@@ -77,26 +79,26 @@ impl LinkLanes {
 }
 
 // Lazily, a false operand that is kept keeps the lane. Strictly, a lane is false only where the other operand is set, and both operands have to be kept.
-fn and(evaluation: u8, a: Lanes, b: Lanes) -> Lanes
-    ensures { Operated evaluation AND a b result }
+fn and(evaluation: Evaluation, a: Lanes, b: Lanes) -> Lanes
+    ensures { Operated (meant evaluation) AND a b result }
 {
-    if evaluate::is_lazy(evaluation) {
-        return Lanes {
+    match evaluation {
+        Evaluation::Lazy => Lanes {
             trues: a.trues & b.trues,
             falses: a.falses | b.falses,
             kept: (a.kept & (b.kept | a.falses)) | (b.kept & b.falses),
-        };
-    }
-    Lanes {
-        trues: a.trues & b.trues,
-        falses: (a.falses & (b.trues | b.falses)) | (a.trues & b.falses),
-        kept: a.kept & b.kept,
+        },
+        Evaluation::Strict => Lanes {
+            trues: a.trues & b.trues,
+            falses: (a.falses & (b.trues | b.falses)) | (a.trues & b.falses),
+            kept: a.kept & b.kept,
+        },
     }
 }
 
 // Under both evaluations.
 fn equal(a: Lanes, b: Lanes) -> Lanes
-    ensures { (e : ℕ) → Operated e EQ a b result }
+    ensures { (e : Evaluation) → Operated (meant e) EQ a b result }
 {
     Lanes {
         trues: (a.trues & b.trues) | (a.falses & b.falses),
@@ -106,8 +108,8 @@ fn equal(a: Lanes, b: Lanes) -> Lanes
 }
 
 // OR is the opposite of AND of the opposites, NE that of EQ.
-fn operate(evaluation: u8, o: Operator, a: Lanes, b: Lanes) -> Lanes
-    ensures { Operated evaluation (operator_of o) a b result }
+fn operate(evaluation: Evaluation, o: Operator, a: Lanes, b: Lanes) -> Lanes
+    ensures { Operated (meant evaluation) (operator_of o) a b result }
 {
     match o {
         Operator::And => and(evaluation, a, b),
@@ -118,9 +120,15 @@ fn operate(evaluation: u8, o: Operator, a: Lanes, b: Lanes) -> Lanes
 }
 
 // The value of a row in each lane, from those of other rows.
-fn step(evaluation: u8, cs: &[u8], row: usize, links: &LinkLanes, table: &[Lanes; 256]) -> Lanes
+fn step(
+    evaluation: Evaluation,
+    cs: &[u8],
+    row: usize,
+    links: &LinkLanes,
+    table: &[Lanes; 256],
+) -> Lanes
     requires { row * 4 + 4 ≤ length cs.now }
-    ensures { Stepped evaluation (condition_row_at cs.now row) links.now.trues links.now.falses table.now result }
+    ensures { Stepped (meant evaluation) (condition_row_at cs.now row) links.now.trues links.now.falses table.now result }
 {
     match condition_row(cs, row) {
         ConditionRow::False => FALSE,
@@ -137,9 +145,10 @@ pub fn value(evaluation: u8, cs: &[u8], row: usize, links: &LinkLanes) -> Lanes
     requires { (row * 4 + 4 ≤ length cs.now) × (row < 256) }
     ensures { Valued evaluation cs.now row links.now.trues links.now.falses result }
 {
+    let meant = Evaluation::of(evaluation);
     let mut table = [FALSE; 256];
     for i in 0..row {
-        table[i] = step(evaluation, cs, i, links, &table);
+        table[i] = step(meant, cs, i, links, &table);
     }
-    step(evaluation, cs, row, links, &table)
+    step(meant, cs, row, links, &table)
 }

@@ -15,7 +15,7 @@ put-requires c = let l = c.loop-i in
 pub loop-i-preserved : goal.loop-i-preserved
 loop-i-preserved c = let l = c.loop-i in
     let p = c.put.ensures in
-    evaluated_more _ _ _ l.i l.vals l.invariant c.put.new.vals p.0 p.1.0 (p.1.1 ∙ (c.value_by-v.ensures ∙ ap digit (found _ _ _ _ _ l.invariant (c.type_inv.cs _).fits (c.type_inv.cs _).fits)))
+    evaluated_more _ _ _ l.i l.vals l.invariant c.put.new.vals p.0 p.1.0 (p.1.1 ∙ ((rw c.of-meant.ensures at c.value_by-v.ensures) ∙ ap digit (found _ _ _ _ _ l.invariant (c.type_inv.cs _).fits (c.type_inv.cs _).fits)))
 
 pub returns : goal.returns
 returns c = let e : c.loop-i.i ≡ c.args.k = omega arith in

@@ -1,9 +1,11 @@
-use mathlib.Core.Path.{sym, ◌∙◌}
-use Rattle.lanes.proofs.Operators.{lazy_is, strict_is, and_lazy, and_strict}
+use Rattle.evaluate.specs.Values.{meant}
+use Rattle.lanes.proofs.Operators.{and_lazy, and_strict}
 use Rattle.lanes.proofs.and.Goals as goal
 
-pub returns-then-is_lazy : goal.returns-then-is_lazy
-returns-then-is_lazy c = and_lazy _ (lazy_is _ (sym c.is_lazy.ensures ∙ c.if-is_lazy.true)) c.args.a c.args.b
+pub returns-in-Lazy : goal.returns-in-Lazy
+unfolding meant
+returns-in-Lazy c = rw c.in-Lazy.is (and_lazy c.args.a c.args.b)
 
-pub returns : goal.returns
-returns c = and_strict _ (strict_is _ (sym c.is_lazy.ensures ∙ c.if-is_lazy.false)) c.args.a c.args.b
+pub returns-in-Strict : goal.returns-in-Strict
+unfolding meant
+returns-in-Strict c = rw c.in-Strict.is (and_strict c.args.a c.args.b)
