@@ -144,30 +144,6 @@ fn new_row(node: TermRow, mark: u8, tops: &[u8; 256], ranks: &[u8; 256]) -> [u8;
     }
 }
 
-// The rows that are kept, in their old order, into the array; and how many.
-fn new_rows(
-    ts: &[u8],
-    n: usize,
-    marks: &[u8; 256],
-    kept: &[u8; 256],
-    tops: &[u8; 256],
-    ranks: &[u8; 256],
-    out: &mut [u8],
-) -> usize
-    requires { ((n ≤ 256) × (n * 4 ≤ length ts.now)) × (n * 4 ≤ length out.old) }
-    ensures { LaidIn (count (flagged kept.now) n) (new_terms ts.now n (λ k. get_or marks.now k 0) (flagged kept.now) tops.now ranks.now) result out.new }
-{
-    let mut count = 0;
-    for i in 0..n {
-        if kept[i] == 1 {
-            let row = new_row(rows::term::term_row(ts, i), marks[i], tops, ranks);
-            laying::put(out, count * 4, row);
-            count += 1;
-        }
-    }
-    count
-}
-
 // The terms of the compacted table into the array, and how many rows they are.
 fn kept_rows(h: Head, ts: &[u8], s: State, out: &mut [u8]) -> usize
     requires { RowsLent ts.now h.n × (h.n * 4 ≤ length out.old) }
@@ -177,7 +153,11 @@ fn kept_rows(h: Head, ts: &[u8], s: State, out: &mut [u8]) -> usize
     let tops = tops(ts, h.n, &s.marks);
     let kept = kept(&live, &tops, h.n);
     let ranks = laying::ranks(&kept, h.n);
-    new_rows(ts, h.n, &s.marks, &kept, &tops, &ranks, out)
+    let row = |i: usize|
+        requires { (i < 256) × (i * 4 + 4 ≤ length ts.now) }
+        ensures { result ≡ new_bytes (row_at ts.entry.now i) (get_or s.marks i 0) tops ranks }
+    { new_row(rows::term::term_row(ts, i), s.marks[i], &tops, &ranks) };
+    laying::lay(&kept, h.n, row, out)
 }
 
 // The evaluation of the compacted sheet: 2 for strict, 3 for lazy; that of a compacted one stays.
