@@ -23,7 +23,8 @@ use Rattle.moves.specs.Standing.{join_in_front, joins_of, waiting_by, waiting_of
 use Rattle.flags.specs.Flags.{flagged}
 use Rattle.flags.proofs.Shown.{shown}
 use Rattle.front.proofs.Asking.{asked_reached}
-use Rattle.engine.specs.ByValue.{is_step, step_from, join_from, steps_from, waiting_from}
+use Rattle.std.specs.Result.{is_ok}
+use Rattle.engine.specs.ByValue.{step_from, join_from, steps_from, waiting_from}
 use Rattle.engine.proofs.Known.{Knows, kind_known, kind_step}
 
 -- a JOIN in front, by the kind of the row
@@ -57,7 +58,7 @@ module _ (t : Table) (s : State) (seen vals : List ℕ) (k : Knows t s seen vals
   module _ (w : WellFormed t) where
     pub steps_from_law : steps_from t.terms t.n s.mode s.marks seen vals ≡ listed_of t s
     unfolding steps_from step_from listed_of
-    steps_from_law = listed_same _ (has_step t s) 0 t.n (λ r a h. ap is_step (kind_known t w s seen vals k r) ∙ kind_step t s r)
+    steps_from_law = listed_same _ (has_step t s) 0 t.n (λ r a h. ap is_ok (kind_known t w s seen vals k r) ∙ kind_step t s r)
 
     pub waiting_from_law : waiting_from t.terms t.n s.mode s.marks seen vals ≡ waiting_of t s
     unfolding waiting_from waiting_of

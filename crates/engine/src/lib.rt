@@ -2,25 +2,26 @@
 
 #![tactic(auto)]
 
-ghost use Rattle.std.specs.Prelude.{◌≡◌, ◌+◌, ◌*◌, ◌<◌, ◌≤◌, length, get_or};
+ghost use Rattle.std.specs.Prelude.{◌≡◌, Ok, ◌+◌, ◌*◌, ◌<◌, ◌≤◌, length, get_or};
 ghost use Rattle.laws.specs.Listed.{written};
 ghost use Rattle.sheet.specs.Table.{table_of, row_at};
+ghost use Rattle.sheet.specs.Rules.{refuse};
 ghost use Rattle.sheet.specs.Accepted.{WellFormed};
 ghost use Rattle.evaluate.specs.Values.{value_in};
-ghost use Rattle.moves.specs.Steps.{kind_at, listed_of};
+ghost use Rattle.moves.specs.Steps.{kind_at, listed_of, stepped_of};
 ghost use Rattle.moves.specs.Standing.{waiting_of, awaits_of};
 ghost use Rattle.flags.specs.Flags.{flagged, Shows};
-ghost use Rattle.engine.specs.ByValue.{join_kind, row_kind, kind_from, is_step, step_from, join_from, steps_from, waiting_from, taken_answer};
+ghost use Rattle.engine.specs.ByValue.{join_kind, row_kind, kind_from, step_from, join_from, steps_from, waiting_from, taken_answer};
 
 use evaluate::Values;
-use sheet::Head;
+use rows::term::{TermRow, term_row};
+use sheet::{Head, Refusal};
 use state::{State, StepKind};
 
-// Whether a step was taken, which or why not, and the state after.
+// Which step was taken, or why none; and the state after.
 #[derive(Clone, Copy)]
 pub struct Stepped {
-    pub ok: bool,
-    pub answer: StepKind,
+    pub answer: Result<StepKind, Refusal>,
     pub state: State,
 }
 
@@ -31,30 +32,42 @@ pub struct Standing {
     pub waiting: usize,
 }
 
+// 11: the row has no step.
+fn no_step(row: usize) -> Refusal
+    ensures { result ≡ refuse 11 row }
+{
+    Refusal {
+        number: 11,
+        place: row,
+    }
+}
+
 // A JOIN in front, by the value of its condition.
-fn join_kind(row: usize, mode: u8, value: u8) -> StepKind
+fn join_kind(row: usize, mode: u8, value: u8) -> Result<StepKind, Refusal>
     ensures { result ≡ join_kind row mode value }
 {
     if value == 2 {
-        return StepKind::Open;
+        return Ok(StepKind::Open);
     }
     if (value == 1) & front::cleans(mode) {
-        return StepKind::Clean;
+        return Ok(StepKind::Clean);
     }
-    StepKind::Refused(11, row)
+    Err(no_step(row))
 }
 
 // The step of a row in front.
-fn row_kind(ts: &[u8], row: usize, mode: u8, vals: &Values) -> StepKind
+#[tactic(auto, unfolding(crate::specs::ByValue::row_kind, crate::specs::ByValue::prefix_kind))]
+fn row_kind(ts: &[u8], row: usize, mode: u8, vals: &Values) -> Result<StepKind, Refusal>
     requires { row * 4 + 4 ≤ length ts.now }
     ensures { result ≡ row_kind row mode (row_at ts.now row) (value_in vals.now) }
 {
-    let at = row * 4;
-    match ts[at] {
-        1 => StepKind::Act(ts[at + 1]),
-        2 => StepKind::Set(ts[at + 1], (ts[at + 2] == 1) as u8),
-        3 => join_kind(row, mode, evaluate::value_in(vals, ts[at + 1])),
-        _ => StepKind::Refused(11, row),
+    match term_row(ts, row) {
+        TermRow::Act { activity, .. } => Ok(StepKind::Act(activity)),
+        TermRow::Out { link, value, .. } => Ok(StepKind::Set(link, value as u8)),
+        TermRow::Join { condition, .. } => {
+            join_kind(row, mode, evaluate::value_in(vals, condition))
+        }
+        _ => Err(no_step(row)),
     }
 }
 
@@ -67,24 +80,25 @@ fn kind_from(
     reached: &[u8; 256],
     vals: &Values,
     row: usize,
-) -> StepKind
+) -> Result<StepKind, Refusal>
     requires { (n * 4 ≤ length ts.now) × (n ≤ 256) }
     ensures { result ≡ kind_from ts.now n mode (λ k. get_or marks.now k 0) (flagged reached.now) (value_in vals.now) row }
 {
+    let none = no_step(row);
     if n <= row {
-        return StepKind::Refused(11, row);
+        return Err(none);
     }
     if reached[row] != 1 {
-        return StepKind::Refused(11, row);
+        return Err(none);
     }
     if !front::waiting_step(ts, row, marks[row]) {
-        return StepKind::Refused(11, row);
+        return Err(none);
     }
     row_kind(ts, row, mode, vals)
 }
 
 // The step of a row in a state, or 11 and the row.
-pub fn kind(h: Head, ts: &[u8], cs: &[u8], s: State, row: usize) -> StepKind
+pub fn kind(h: Head, ts: &[u8], cs: &[u8], s: State, row: usize) -> Result<StepKind, Refusal>
     requires { WellFormed (table_of h ts.now cs.now) }
     ensures { result ≡ kind_at (table_of h ts.now cs.now) s row }
 {
@@ -93,15 +107,14 @@ pub fn kind(h: Head, ts: &[u8], cs: &[u8], s: State, row: usize) -> StepKind
     kind_from(ts, h.n, s.mode, &s.marks, &reached, &vals, row)
 }
 
-fn is_step(kind: StepKind) -> bool
-    ensures { result ≡ is_step kind }
+// The state after the step of a row.
+fn after(h: Head, ts: &[u8], cs: &[u8], s: State, row: usize, step: StepKind) -> State
+    requires { WellFormed (table_of h ts.now cs.now) × (Ok step ≡ kind_at (table_of h ts.now cs.now) s row) }
+    ensures { result ≡ stepped_of (table_of h ts.now cs.now) s row }
 {
-    match kind {
-        StepKind::Act(_) => true,
-        StepKind::Set(_, _) => true,
-        StepKind::Open => true,
-        StepKind::Clean => true,
-        StepKind::Refused(_, _) => false,
+    match step {
+        StepKind::Clean => effects::dropped(h.m, ts, h.n, s, row),
+        _ => effects::taken(h.m, ts, h.n, s, row),
     }
 }
 
@@ -111,29 +124,12 @@ pub fn take(h: Head, ts: &[u8], cs: &[u8], s: State, row: usize) -> Stepped
     ensures { result ≡ taken_answer (table_of h ts.now cs.now) s row }
 {
     match kind(h, ts, cs, s, row) {
-        StepKind::Act(a) => Stepped {
-            ok: true,
-            answer: StepKind::Act(a),
-            state: effects::taken(h.m, ts, h.n, s, row),
+        Ok(step) => Stepped {
+            answer: Ok(step),
+            state: after(h, ts, cs, s, row, step),
         },
-        StepKind::Set(l, v) => Stepped {
-            ok: true,
-            answer: StepKind::Set(l, v),
-            state: effects::taken(h.m, ts, h.n, s, row),
-        },
-        StepKind::Open => Stepped {
-            ok: true,
-            answer: StepKind::Open,
-            state: effects::taken(h.m, ts, h.n, s, row),
-        },
-        StepKind::Clean => Stepped {
-            ok: true,
-            answer: StepKind::Clean,
-            state: effects::dropped(h.m, ts, h.n, s, row),
-        },
-        StepKind::Refused(a, b) => Stepped {
-            ok: false,
-            answer: StepKind::Refused(a, b),
+        Err(refusal) => Stepped {
+            answer: Err(refusal),
             state: s,
         },
     }
@@ -151,7 +147,7 @@ fn has_step(
     requires { (n * 4 ≤ length ts.now) × (n ≤ 256) }
     ensures { result ≡ step_from ts.now n mode marks.now reached.now vals.now row }
 {
-    is_step(kind_from(ts, n, mode, marks, reached, vals, row))
+    kind_from(ts, n, mode, marks, reached, vals, row).is_ok()
 }
 
 // Flags the rows that have a step.
@@ -167,10 +163,8 @@ fn show_steps(
     requires { (length flags.old ≡ 256) × ((n * 4 ≤ length ts.now) × (n ≤ 256)) }
     ensures { Shows (step_from ts.now n mode marks.now reached.now vals.now) n flags.new }
 {
-    let mut i = 0;
-    while i < n {
+    for i in 0..n {
         flags[i] = has_step(ts, n, mode, marks, reached, vals, i) as u8;
-        i += 1;
     }
 }
 
@@ -202,10 +196,8 @@ fn show_joins(flags: &mut [u8; 256], ts: &[u8], n: usize, marks: &[u8; 256], rea
     requires { (length flags.old ≡ 256) × ((n * 4 ≤ length ts.now) × (n ≤ 256)) }
     ensures { Shows (join_from ts.now marks.now reached.now) n flags.new }
 {
-    let mut i = 0;
-    while i < n {
+    for i in 0..n {
         flags[i] = join_in_front(ts, marks, reached, i) as u8;
-        i += 1;
     }
 }
 

@@ -1,4 +1,5 @@
 -- States that are alike in the calculus list the same steps, cleaning steps apart. Assumes nothing.
+use Rattle.std.specs.Prelude.{Ok}
 use mathlib.Core.Path.{◌≡◌, sym, ap, ◌∙◌, subst}
 use mathlib.Core.Bool.{true, true≢false}
 use Prim.Native.Nat.{ℕ}
@@ -22,7 +23,7 @@ module _ (t : Table) (w : WellFormed t) where
 
   module _ (s : State) (size : Sized s) (r : ℕ) where
     -- a step that is listed and no cleaning
-    has_lists : has_step t s r ≡ true → (kind_at t s r ≡ Clean → ⊥) → (π : Prefix) × (kind_at t s r ≡ kind_of π) × Lists eval (mode_of s.mode) (left_in t s) (links_of s) (step r π)
+    has_lists : has_step t s r ≡ true → (kind_at t s r ≡ Ok Clean → ⊥) → (π : Prefix) × (kind_at t s r ≡ kind_of π) × Lists eval (mode_of s.mode) (left_in t s) (links_of s) (step r π)
     unfolding kind_in row_of
     has_lists h n = let (α, p, q, (y, a, _, _)) = step_move t w s size r h in at α p q y a
       where
@@ -36,11 +37,11 @@ module _ (t : Table) (w : WellFormed t) where
         let l = move_step t w s size y in
         subst (λ (α : Label). (has_step t s (row_of α) ≡ true) × (kind_at t s (row_of α) ≡ kind_in α)) a (l.there, l.kind)
 
-    plain_kind : mode_of s.mode ≡ plain → has_step t s r ≡ true → kind_at t s r ≡ Clean → ⊥
+    plain_kind : mode_of s.mode ≡ plain → has_step t s r ≡ true → kind_at t s r ≡ Ok Clean → ⊥
     unfolding kind_in cleans
     plain_kind e h c = let (α, p, q, (y, a, _, _)) = step_move t w s size r h in at y (ap kind_in a ∙ (q ∙ c))
       where
-        at : (y : Move eval (mode_of s.mode) (left_in t s) (links_of s)) → kind_in (label eval y) ≡ Clean → ⊥
+        at : (y : Move eval (mode_of s.mode) (left_in t s) (links_of s)) → kind_in (label eval y) ≡ Ok Clean → ⊥
         at (move takes x a o) f = not_clean _ f
         at (move drops x a o) f = true≢false (sym a ∙ ap cleans e)
 

@@ -1,4 +1,5 @@
 -- From any fitting state, along any run: the state fits, the mode stays, no link once set alters, and the run is no longer than the steps that wait. Assumes nothing.
+use Rattle.std.specs.Prelude.{Ok}
 use mathlib.Core.Path.{◌≡◌, sym, ap, ◌∙◌, subst}
 use mathlib.Core.Bool.{Bool, true}
 use mathlib.Core.Logic.{◌⊎◌, inl, inr, ⊎_elim}
@@ -41,7 +42,7 @@ module _ (t : Table) (w : WellFormed t) where
     links_never_alter {s} h f R = grows_run t w h (fits_valid t w source s f) R
 
     -- "Nothing else changes": the mode stays; a mark that changes is the row's or that of a waiting PICK above it, decided towards it, and a clean step decides none; a link that changes was unset
-    pub nothing_else : {s : State} → Sized s → Fits t s → (r : ℕ) → has_step t s r ≡ true → ((stepped_of t s r).mode ≡ s.mode) × ((k : ℕ) → (marks_of (stepped_of t s r) k ≡ marks_of s k) ⊎ ((k ≡ r) ⊎ ((kind_at t s r ≡ Clean → ⊥) × (side : Bool) × PickAbove t s r k side × (marks_of (stepped_of t s r) k ≡ side_mark side)))) × Grows (links_of s) (links_of (stepped_of t s r))
+    pub nothing_else : {s : State} → Sized s → Fits t s → (r : ℕ) → has_step t s r ≡ true → ((stepped_of t s r).mode ≡ s.mode) × ((k : ℕ) → (marks_of (stepped_of t s r) k ≡ marks_of s k) ⊎ ((k ≡ r) ⊎ ((kind_at t s r ≡ Ok Clean → ⊥) × (side : Bool) × PickAbove t s r k side × (marks_of (stepped_of t s r) k ≡ side_mark side)))) × Grows (links_of s) (links_of (stepped_of t s r))
     unfolding last
     nothing_else {s} h f r e =
         let (u, q) = has_turn t s r e in (

@@ -1,4 +1,5 @@
 -- THE STEP OF A ROW IS A MOVE OF THE REMAINDER, and each move is the step of its row: in every state of the right size, in both modes, under both evaluations. Assumes nothing.
+use Rattle.std.specs.Prelude.{Ok, Err}
 use mathlib.Core.Path.{◌≡◌, refl, sym, ap, ◌∙◌, subst, fun_ext}
 use mathlib.Core.Bool.{Bool, true, false, cond, ◌&&◌, true≢false}
 use mathlib.Core.Option.{Option, none, some}
@@ -24,23 +25,22 @@ use Rattle.steps.proofs.InFront.{waits_is, place_front}
 use Rattle.sheet.specs.Table.{Table, eval_in}
 use Rattle.sheet.specs.Accepted.{WellFormed}
 use Rattle.state.specs.declared.State.{State}
-use Rattle.state.specs.declared.StepKind.{StepKind}
-use Rattle.state.specs.declared.StepKind.TheVariants.{Act, Set, Open, Clean, Refused}
-use Rattle.moves.specs.Steps.{mode_of, marks_of, links_of, Sized, nodes, left_in, turn_by, turn_at, kind_of, kind_in, kind_by, kind_turned, kind_at, is_some, has_step, stepped_by, stepped_of, Listed}
+use Rattle.state.specs.declared.StepKind.TheVariants.{Act, Set, Open, Clean}
+use Rattle.moves.specs.Steps.{Kind, mode_of, marks_of, links_of, Sized, nodes, left_in, turn_by, turn_at, kind_of, kind_in, kind_by, kind_turned, kind_at, is_some, has_step, stepped_by, stepped_of, Listed}
 use Rattle.moves.proofs.StateAfter.{Is, is_counted, At, taken_at, dropped_at}
 
 no_turn : {u : Turn} → none ≡ some u → ⊥
 no_turn e = true≢false (sym (ap is_some e))
 
 -- a kind of a prefix is no cleaning
-abbrev Cleans : StepKind → Type 0
-Cleans (Act a) = ⊥
-Cleans (Set l v) = ⊥
-Cleans Open = ⊥
-Cleans Clean = Unit {0}
-Cleans (Refused n p) = ⊥
+abbrev Cleans : Kind → Type 0
+Cleans (Ok (Act a)) = ⊥
+Cleans (Ok (Set l v)) = ⊥
+Cleans (Ok Open) = ⊥
+Cleans (Ok Clean) = Unit {0}
+Cleans (Err e) = ⊥
 
-pub not_clean : (π : Prefix) → kind_of π ≡ Clean → ⊥
+pub not_clean : (π : Prefix) → kind_of π ≡ Ok Clean → ⊥
 unfolding kind_of
 not_clean (act a) e = subst Cleans (sym e) tt
 not_clean (out l b) e = subst Cleans (sym e) tt
@@ -90,7 +90,7 @@ module _ (t : Table) (s : State) (r : ℕ) where
   turn_kind drops π c e p = rw e refl
 
   -- a step that is taken is no cleaning
-  pub takes_kind : turn_at t s r ≡ some takes → kind_at t s r ≡ Clean → ⊥
+  pub takes_kind : turn_at t s r ≡ some takes → kind_at t s r ≡ Ok Clean → ⊥
   unfolding kind_in
   takes_kind e q = let (_, π, c, p, _) = turn_fronts takes e in not_clean π (sym (turn_kind takes π c e p) ∙ q)
 

@@ -1,4 +1,5 @@
 -- A FITTING STATE IS NEEDED for what `AtOnce` says: in a state that breaks (d) one of two steps on the two sides of a FLOW may alter the kind of the other. By computing. Assumes nothing.
+use Rattle.std.specs.Prelude.{Ok}
 use mathlib.Core.Path.{◌≡◌, refl, sym, ◌∙◌}
 use mathlib.Core.Bool.{true, false, true≢false}
 use mathlib.Core.List.{[], ◌∷◌}
@@ -55,7 +56,7 @@ sides = record {
 pub unfit_alters : ((refusal_of flow_table).number ≡ 0)
     × (checked refuse (refuse 0 0) (marks_fit flow_table.terms 5 (mode_of 1) (marks_of set_before) ∷ (links_fit 1 set_before.links ∷ (waits_fit flow_table.terms 5 (marks_of set_before) ∷ []))) ≡ refuse 0 0)
     × (clear_ok flow_table.terms (marks_of set_before) set_before.links 1 ≡ false)
-    × (has_step flow_table set_before 1 ≡ true) × (has_step flow_table set_before 3 ≡ true) × (kind_at flow_table set_before 3 ≡ Open) × (kind_at flow_table (stepped_of flow_table set_before 1) 3 ≡ Clean)
+    × (has_step flow_table set_before 1 ≡ true) × (has_step flow_table set_before 3 ≡ true) × (kind_at flow_table set_before 3 ≡ Ok Open) × (kind_at flow_table (stepped_of flow_table set_before 1) 3 ≡ Ok Clean)
 unfolding or below up_by up lowest sum count place_of checked listed own cleans join_turn turn_of condition_by condition reachedFrom lazy value digit undigit links_of
     first_of second_of is_join_prefix is_join condition_of_prefix condition_of is_source stand open_branches names parent_of waits_by waiting waiting_step opens leads inherited_by inherited reached in_front
     row_by row_at condition_row_by condition_row_at lazy_of is_compacted evaluation_of sized settled condition_rule condition_ok child_ok term_rule term_ok same namings times_named sources join_ok wants unsourced few_links_rule refusal_of links_in

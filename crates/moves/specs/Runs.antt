@@ -1,12 +1,11 @@
 -- Runs of an accepted table: rows, each listed in the state before. Demand 3 over them.
-use Rattle.std.specs.Prelude.{◌≡◌, true, List, [], ◌∷◌, map, ◌↔◌, ℕ}
+use Rattle.std.specs.Prelude.{◌≡◌, true, List, [], ◌∷◌, map, ◌↔◌, Result, Ok, Err, ℕ}
 use Rattle.calculus.specs.Order.{◌⊑◌}
 use Rattle.calculus.specs.Places.{Grows}
 use Rattle.sheet.specs.Table.{Table}
 use Rattle.state.specs.declared.State.{State}
-use Rattle.state.specs.declared.StepKind.{StepKind}
-use Rattle.state.specs.declared.StepKind.TheVariants.{Act, Set, Open, Clean, Refused}
-use Rattle.moves.specs.Steps.{links_of, kind_at, has_step, stepped_of, start_of}
+use Rattle.state.specs.declared.StepKind.TheVariants.{Act, Set, Open, Clean}
+use Rattle.moves.specs.Steps.{Kind, links_of, kind_at, has_step, stepped_of, start_of}
 
 pub data Run (t : Table) : State → Type 0 where
   done : {s : State} → Run t s
@@ -15,7 +14,7 @@ pub data Run (t : Table) : State → Type 0 where
 -- a step taken: its row and its kind
 pub record Taken : Type 0 where
   pub row : ℕ
-  pub kind : StepKind
+  pub kind : Kind
 
 unfoldable pub taken : {t : Table} {s : State} → Run t s → List Taken
 taken done = []
@@ -26,12 +25,12 @@ last {s = s} done = s
 last (take r e R) = last R
 
 -- the steps but the cleaning steps
-abbrev pub unless_clean : Taken → StepKind → List Taken → List Taken
-unless_clean x (Act a) l = x ∷ l
-unless_clean x (Set a v) l = x ∷ l
-unless_clean x Open l = x ∷ l
-unless_clean x Clean l = l
-unless_clean x (Refused n p) l = x ∷ l
+abbrev pub unless_clean : Taken → Kind → List Taken → List Taken
+unless_clean x (Ok (Act a)) l = x ∷ l
+unless_clean x (Ok (Set a v)) l = x ∷ l
+unless_clean x (Ok Open) l = x ∷ l
+unless_clean x (Ok Clean) l = l
+unless_clean x (Err e) l = x ∷ l
 
 unfoldable pub struck : List Taken → List Taken
 struck [] = []
@@ -42,7 +41,7 @@ rows_of = map (λ x. x.row)
 
 -- "both list the same steps, cleaning steps apart, and their links differ only where the run without cleaning says unset and the cleaned one false"
 pub record Alike (t : Table) (s z : State) : Type 0 where
-  pub same_steps : (r : ℕ) → ((has_step t s r ≡ true) ↔ ((has_step t z r ≡ true) × (kind_at t z r ≡ Clean → ⊥)))
+  pub same_steps : (r : ℕ) → ((has_step t s r ≡ true) ↔ ((has_step t z r ≡ true) × (kind_at t z r ≡ Ok Clean → ⊥)))
   pub same_kinds : (r : ℕ) → has_step t s r ≡ true → kind_at t s r ≡ kind_at t z r
   pub below : links_of s ⊑ links_of z
 

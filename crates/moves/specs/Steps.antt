@@ -1,5 +1,5 @@
 -- Document 01, "State and steps": which step a row has in a state, the list of steps, the two counts of a state, and the state after a step. Every definition is total: any table, any state, any row.
-use Rattle.std.specs.Prelude.{Bool, true, false, cond, not, ◌≡◌, List, ℕ, zero, suc, ◌+◌, eqb, ltb, get_or, length}
+use Rattle.std.specs.Prelude.{Bool, true, false, cond, not, ◌≡◌, List, Result, Ok, ℕ, zero, suc, ◌+◌, eqb, ltb, get_or, length}
 use Rattle.std.proofs.Math.Option.{Option, none, some}
 use Rattle.laws.specs.Tests.{or, bit}
 use Rattle.laws.specs.Up.{up}
@@ -16,11 +16,13 @@ use Rattle.conditions.specs.Numbers.{digit}
 use Rattle.steps.specs.Rows.{Row, NIL, PREFIX, BRANCH, first_of, second_of, term}
 use Rattle.steps.specs.Marks.{Marks, open_branches, remainder}
 use Rattle.steps.specs.InFront.{parent_of, right_of, undecided, in_front}
+use Rattle.sheet.specs.declared.Refusal.{Refusal}
 use Rattle.sheet.specs.Table.{Table, row_at, eval_in}
+use Rattle.sheet.specs.Rules.{no}
 use Rattle.evaluate.specs.Values.{links_in}
 use Rattle.state.specs.declared.State.{State}
 use Rattle.state.specs.declared.StepKind.{StepKind}
-use Rattle.state.specs.declared.StepKind.TheVariants.{Act, Set, Open, Clean, Refused}
+use Rattle.state.specs.declared.StepKind.TheVariants.{Act, Set, Open, Clean}
 use Rattle.state.specs.State.{fresh_of, pass_of, drop_of, decide_of, set_of, with_counts}
 
 -- A state as the calculus reads it: "the mode (0 plain, 1 cleaning), one mark for each of 256 rows and one value for each of 64 links".
@@ -58,29 +60,33 @@ turn_by f (BRANCH κ p q) = none
 unfoldable pub turn_at : Table → State → ℕ → Option Turn
 turn_at t s r = cond (in_front (nodes t) (marks_of s) t.n r) (turn_by (λ π. turn_of (eval_in t) (mode_of s.mode) π (links_of s)) (nodes t r)) none
 
+-- what is told of a row: the kind of its step, or why it has none
+abbrev pub Kind : Type 0
+Kind = Result StepKind Refusal
+
 -- "act" with the activity, "set" with link and 0 or 1, "open" or "clean"; 11 where there is no step
-unfoldable pub kind_of : Prefix → StepKind
-kind_of (act a) = Act a
-kind_of (out l b) = Set l (bit b)
-kind_of (join c) = Open
+unfoldable pub kind_of : Prefix → Kind
+kind_of (act a) = Ok (Act a)
+kind_of (out l b) = Ok (Set l (bit b))
+kind_of (join c) = Ok Open
 
 -- a label of R shows its row and a kind: what stands there, or that it was cleaned away
-unfoldable pub kind_in : Label → StepKind
+unfoldable pub kind_in : Label → Kind
 kind_in (step r π) = kind_of π
-kind_in (clean r) = Clean
+kind_in (clean r) = Ok Clean
 
 -- a NIL, PICK or FLOW has no turn and is never asked
-unfoldable pub kind_by : Row → StepKind
-kind_by NIL = Open
+unfoldable pub kind_by : Row → Kind
+kind_by NIL = Ok Open
 kind_by (PREFIX π c) = kind_of π
-kind_by (BRANCH κ p q) = Open
+kind_by (BRANCH κ p q) = Ok Open
 
-unfoldable pub kind_turned : Row → ℕ → Option Turn → StepKind
-kind_turned N r none = Refused 11 r
+unfoldable pub kind_turned : Row → ℕ → Option Turn → Kind
+kind_turned N r none = no 11 r
 kind_turned N r (some takes) = kind_by N
-kind_turned N r (some drops) = Clean
+kind_turned N r (some drops) = Ok Clean
 
-unfoldable pub kind_at : Table → State → ℕ → StepKind
+unfoldable pub kind_at : Table → State → ℕ → Kind
 kind_at t s r = kind_turned (nodes t r) r (turn_at t s r)
 
 -- "The list of steps is in rising row order."

@@ -1,4 +1,5 @@
 -- What two states share, as a caller sees it: the listed steps, and the bytes of the links. Assumes nothing.
+use Rattle.std.specs.Prelude.{Ok, Err}
 use Prim.Native.Nat.{ℕ, zero, suc}
 use mathlib.Core.Path.{◌≡◌, refl, sym, ◌∙◌, ap, ap₂, subst, fun_ext}
 use mathlib.Core.Bool.{Bool, true, false, cond}
@@ -13,9 +14,8 @@ use Rattle.calculus.proofs.Order.{below_cases}
 use Rattle.conditions.specs.Numbers.{digit}
 use Rattle.sheet.specs.Table.{Table}
 use Rattle.state.specs.declared.State.{State}
-use Rattle.state.specs.declared.StepKind.{StepKind}
-use Rattle.state.specs.declared.StepKind.TheVariants.{Act, Set, Open, Clean, Refused}
-use Rattle.moves.specs.Steps.{links_of, kind_at, has_step, listed_of}
+use Rattle.state.specs.declared.StepKind.TheVariants.{Act, Set, Open, Clean}
+use Rattle.moves.specs.Steps.{links_of, kind_at, has_step, listed_of, Kind}
 use Rattle.moves.specs.Runs.{Taken, unless_clean, struck, Alike}
 use Rattle.moves.proofs.Fits.{link_digit}
 use Rattle.moves.proofs.Kept.{links_never_alter}
@@ -23,19 +23,19 @@ use Rattle.promises.specs.Calls.{Accepted, link, listed_steps, Run, last}
 use Rattle.promises.proofs.Calls.{formed, one_source_law, unrefused, kind_is, rows_are, to_steps, run_keeps}
 
 -- a step is a cleaning step or stays
-clean_or : (k : StepKind) → (k ≡ Clean) ⊎ ((k ≡ Clean → ⊥) × ((x : Taken) (l : List Taken) → unless_clean x k l ≡ x ∷ l))
-clean_or (Act a) = inr ((λ e. let z : ◌≡◌ {A = ℕ} 0 1 = cc in omega arith), λ x l. refl)
-clean_or (Set a v) = inr ((λ e. let z : ◌≡◌ {A = ℕ} 0 1 = cc in omega arith), λ x l. refl)
-clean_or Open = inr ((λ e. let z : ◌≡◌ {A = ℕ} 0 1 = cc in omega arith), λ x l. refl)
-clean_or Clean = inl refl
-clean_or (Refused n p) = inr ((λ e. let z : ◌≡◌ {A = ℕ} 0 1 = cc in omega arith), λ x l. refl)
+clean_or : (k : Kind) → (k ≡ Ok Clean) ⊎ ((k ≡ Ok Clean → ⊥) × ((x : Taken) (l : List Taken) → unless_clean x k l ≡ x ∷ l))
+clean_or (Ok (Act a)) = inr ((λ e. let z : ◌≡◌ {A = ℕ} 0 1 = cc in omega arith), λ x l. refl)
+clean_or (Ok (Set a v)) = inr ((λ e. let z : ◌≡◌ {A = ℕ} 0 1 = cc in omega arith), λ x l. refl)
+clean_or (Ok Open) = inr ((λ e. let z : ◌≡◌ {A = ℕ} 0 1 = cc in omega arith), λ x l. refl)
+clean_or (Ok Clean) = inl refl
+clean_or (Err x) = inr ((λ e. let z : ◌≡◌ {A = ℕ} 0 1 = cc in omega arith), λ x l. refl)
 
 -- rows with their kinds
-abbrev pub with_kinds : (ℕ → StepKind) → List ℕ → List Taken
+abbrev pub with_kinds : (ℕ → Kind) → List ℕ → List Taken
 with_kinds k = map (λ r. record { row = r; kind = k r })
 
 -- two lists of steps that agree, cleaning steps apart
-module _ (f g : ℕ → Bool) (k l : ℕ → StepKind) (same_steps : (r : ℕ) → ((f r ≡ true) ↔ ((g r ≡ true) × (l r ≡ Clean → ⊥)))) (same_kinds : (r : ℕ) → f r ≡ true → k r ≡ l r) where
+module _ (f g : ℕ → Bool) (k l : ℕ → Kind) (same_steps : (r : ℕ) → ((f r ≡ true) ↔ ((g r ≡ true) × (l r ≡ Ok Clean → ⊥)))) (same_kinds : (r : ℕ) → f r ≡ true → k r ≡ l r) where
   steps_struck : (i c : ℕ) → with_kinds k (listed f i c) ≡ struck (with_kinds l (listed g i c))
   unfolding listed struck
   steps_struck i zero = refl
@@ -45,7 +45,7 @@ module _ (f g : ℕ → Bool) (k l : ℕ → StepKind) (same_steps : (r : ℕ) �
       at true e true d ih =
           ⊎_elim
           (λ z. absurd (((same_steps i).0 e).1 z))
-          (λ (never, stays). ap₂ (λ (κ : StepKind) (xs : List Taken). record { row = i; kind = κ } ∷ xs) (same_kinds i e) ih ∙ sym (stays (record { row = i; kind = l i }) _))
+          (λ (never, stays). ap₂ (λ (κ : Kind) (xs : List Taken). record { row = i; kind = κ } ∷ xs) (same_kinds i e) ih ∙ sym (stays (record { row = i; kind = l i }) _))
           (clean_or (l i))
       at true e false d ih = absurd (not_both ((same_steps i).0 e).0 d)
       at false e true d ih =

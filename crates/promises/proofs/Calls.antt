@@ -1,4 +1,5 @@
 -- The calls with a table and a state, where nothing is refused, answer what `moves` defines; and a refused one lists and takes nothing. Assumes nothing.
+use Rattle.std.specs.Result.{is_ok}
 use Rattle.std.specs.Prelude.{Result, Ok}
 use Prim.Native.Nat.{ℕ, ◌≤◌}
 use mathlib.Core.Path.{◌≡◌, refl, sym, ◌∙◌, ap, ap₂, subst}
@@ -21,9 +22,8 @@ use Rattle.sheet.specs.Rules.{refuse, refusal_of}
 use Rattle.sheet.specs.Accepted.{WellFormed, SingleSource}
 use Rattle.sheet.proofs.Accepted.{meets, well_formed, single_source}
 use Rattle.state.specs.declared.State.{State}
-use Rattle.state.specs.declared.StepKind.{StepKind}
 use Rattle.state.specs.declared.StepKind.TheVariants.{Clean}
-use Rattle.moves.specs.Steps.{marks_of, Sized, nodes, turn_at, kind_turned, kind_at, has_step, listed_of, stepped_of}
+use Rattle.moves.specs.Steps.{marks_of, Sized, nodes, turn_at, kind_turned, kind_at, has_step, listed_of, stepped_of, Kind}
 use Rattle.moves.specs.Standing.{waiting_of, awaits_of}
 use Rattle.moves.specs.Runs.{Taken}
 use Rattle.moves.specs.Runs.{Run as Steps, done as ended, take as stepping, taken as steps_taken, last as last_state}
@@ -52,7 +52,7 @@ formed {t} a = well_formed t (meets t a.table)
 pub one_source_law : {t : Table} {s : State} → Accepted t s → SingleSource t
 one_source_law {t} a = single_source t (meets t a.table)
 
-drops_kind : (t : Table) (s : State) (r : ℕ) → turn_at t s r ≡ some drops → kind_at t s r ≡ Clean
+drops_kind : (t : Table) (s : State) (r : ℕ) → turn_at t s r ≡ some drops → kind_at t s r ≡ Ok Clean
 unfolding kind_at kind_turned
 drops_kind t s r q = rw q refl
 
@@ -141,9 +141,9 @@ module _ (t : Table) (s : State) where
     pub row_listed : (r : ℕ) → Memᴰ r (listed_rows t s) ↔ (has_step t s r ≡ true)
     row_listed r = subst (λ (l : List ℕ). Memᴰ r l ↔ (has_step t s r ≡ true)) (sym rows_are) (listed_rows_law t s r)
 
-    pub ok_is : (r : ℕ) → (step_answer t s r).ok ≡ has_step t s r
+    pub ok_is : (r : ℕ) → is_ok (step_answer t s r).answer ≡ has_step t s r
     unfolding taken_answer
-    ok_is r = ap (λ (k : Stepped). k.ok) (step_is r) ∙ kind_step t s r
+    ok_is r = ap (λ (k : Stepped). is_ok k.answer) (step_is r) ∙ kind_step t s r
 
     pub answer_is : (r : ℕ) → (step_answer t s r).answer ≡ kind_at t s r
     unfolding taken_answer
@@ -154,10 +154,10 @@ module _ (t : Table) (s : State) where
     state_is r = ap (λ (k : Stepped). k.state) (step_is r)
 
     -- a listed step takes its row or drops it
-    pub turned : (r : ℕ) → Memᴰ r (listed_rows t s) → ((turn_at t s r ≡ some takes) × (kind_answer t s r ≡ Clean → ⊥)) ⊎ ((turn_at t s r ≡ some drops) × (kind_answer t s r ≡ Clean))
+    pub turned : (r : ℕ) → Memᴰ r (listed_rows t s) → ((turn_at t s r ≡ some takes) × (kind_answer t s r ≡ Ok Clean → ⊥)) ⊎ ((turn_at t s r ≡ some drops) × (kind_answer t s r ≡ Ok Clean))
     turned r m = let (u, q) = has_turn t s r ((row_listed r).0 m) in at u q
       where
-        at : (u : Turn) → turn_at t s r ≡ some u → ((turn_at t s r ≡ some takes) × (kind_answer t s r ≡ Clean → ⊥)) ⊎ ((turn_at t s r ≡ some drops) × (kind_answer t s r ≡ Clean))
+        at : (u : Turn) → turn_at t s r ≡ some u → ((turn_at t s r ≡ some takes) × (kind_answer t s r ≡ Ok Clean → ⊥)) ⊎ ((turn_at t s r ≡ some drops) × (kind_answer t s r ≡ Ok Clean))
         at takes q = inl (q, λ z. takes_kind t s r q (sym (kind_is r) ∙ z))
         at drops q = inr (q, kind_is r ∙ drops_kind t s r q)
 
@@ -175,8 +175,8 @@ module _ (t : Table) (s : State) where
     unfolding awaited_in
     none_awaited lent = ap (λ (n : Result ℕ Refusal). take (count_of n) (waits_buffer t s lent)) (sym (waits_refused t s refusal refl lent h).0)
 
-    none_taken : (r : ℕ) → (step_answer t s r).ok ≡ false
-    none_taken r = ap (λ (k : Stepped). k.ok) (sym (step_refused_law t s refusal refl r h))
+    none_taken : (r : ℕ) → is_ok (step_answer t s r).answer ≡ false
+    none_taken r = ap (λ (k : Stepped). is_ok k.answer) (sym (step_refused_law t s refusal refl r h))
 
   -- so what is told of the rows that a caller reads, or of a step, is told of both
   module _ (read : List ℕ → List ℕ) (whole : List ℕ) (is : refusal.number ≡ 0 → (lent : List ℕ) → length whole ≤ length lent → read lent ≡ whole) (few : refusal.number ≡ 0 → length whole ≤ 256) (none : (refusal.number ≡ 0 → ⊥) → (lent : List ℕ) → read lent ≡ []) where
@@ -204,7 +204,7 @@ module _ (t : Table) (s : State) where
   pub awaited_any : (lent : List ℕ) → length (awaited_bytes t s) ≤ length lent → awaited_in t s lent ≡ awaited_bytes t s
   awaited_any = read_any (awaited_in t s) (awaits_of t s) awaited_is few_awaited none_awaited
 
-  pub ok_listed : (r : ℕ) → ((step_answer t s r).ok ≡ true) ↔ Memᴰ r (listed_rows t s)
+  pub ok_listed : (r : ℕ) → (is_ok (step_answer t s r).answer ≡ true) ↔ Memᴰ r (listed_rows t s)
   ok_listed r =
       by_cases (ℕ_discrete refusal.number 0)
       (λ e. ((λ ok. (row_listed e r).1 (sym (ok_is e r) ∙ ok)), (λ m. ok_is e r ∙ (row_listed e r).0 m)))
@@ -225,7 +225,7 @@ module _ (t : Table) (s : State) where
     waits_unrefused lent = told _ (λ h. ap (λ (n : Result ℕ Refusal). (size_values n).refusal) (waits_refused t s refusal refl lent h).0)
 
     pub kind_unrefused : (r : ℕ) → (step_values (kind_answer t s r)).refusal ≡ 0 → Accepted t s
-    kind_unrefused r = told _ (λ h. ap (λ (k : StepKind). (step_values k).refusal) (kind_refused t s refusal refl r h))
+    kind_unrefused r = told _ (λ h. ap (λ (k : Kind). (step_values k).refusal) (kind_refused t s refusal refl r h))
 
     pub step_unrefused : (r : ℕ) → (step_values (step_answer t s r).answer).refusal ≡ 0 → Accepted t s
     step_unrefused r = told _ (λ h. ap (λ (k : Stepped). (step_values k.answer).refusal) (step_refused_law t s refusal refl r h))
@@ -246,7 +246,7 @@ module _ (t : Table) (s : State) where
         let (size, mode) = step_kept t (formed a) s a.sized r h in
         record { table = a.table; mode = subst (λ (m : ℕ). m ≤ 1) (sym mode) a.mode; fits = fits_step t (formed a) (one_source_law a) s a.sized r h a.fits; sized = size }
 
-    pub taken_keeps : (r : ℕ) → (step_answer t s r).ok ≡ true → Accepted t (step_answer t s r).state
+    pub taken_keeps : (r : ℕ) → is_ok (step_answer t s r).answer ≡ true → Accepted t (step_answer t s r).state
     taken_keeps r ok = subst (Accepted t) (sym (state_is (unrefused a) r)) (stepped r (sym (ok_is (unrefused a) r) ∙ ok))
 
 -- A run of the calls is one of `moves`, with the same steps and the same state after it ...

@@ -1,4 +1,5 @@
 -- DOCUMENT 02, REQUEST 6: is there work left? Over what `acts_left` and `links_unset` answer. Assumes nothing.
+use Rattle.std.specs.Result.{is_ok}
 use Prim.Native.Nat.{ℕ, ◌<◌, ◌≤◌}
 use mathlib.Core.Path.{◌≡◌, refl, sym, ◌∙◌, ap, subst}
 use mathlib.Core.Bool.{true, false, ◌&&◌, not, true≢false}
@@ -22,7 +23,6 @@ use Rattle.sheet.specs.Rules.{refuse, refusal_of, no}
 use Rattle.sheet.specs.Sheet.{room}
 use Rattle.sheet.proofs.Refusals.{without}
 use Rattle.state.specs.declared.State.{State}
-use Rattle.state.specs.declared.StepKind.TheVariants as kind
 use Rattle.moves.specs.Steps.{marks_of, links_of, Sized, nodes, left_in, listed_of, acts_of, act_in, unset_of}
 use Rattle.moves.specs.Standing.{waiting_of}
 use Rattle.moves.specs.Fits.{counts_ok, counts_fit, Fits}
@@ -76,9 +76,9 @@ module _ (t : Table) (s : State) (accepted : Accepted t s) where
 pub step_counts : (t : Table) (s : State) → Accepted t s → (row : ℕ) → FullCounts t (next t s row)
 step_counts t s accepted row =
     ⊎_elim
-    (λ (e : (step_answer t s row).ok ≡ true). full_counts t (next t s row) (taken_keeps t s accepted row e).fits)
-    (λ (e : (step_answer t s row).ok ≡ false). rw (state_back t s row e) (full_counts t s accepted.fits))
-    (cases (step_answer t s row).ok)
+    (λ (e : is_ok (step_answer t s row).answer ≡ true). full_counts t (next t s row) (taken_keeps t s accepted row e).fits)
+    (λ (e : is_ok (step_answer t s row).answer ≡ false). rw (state_back t s row e) (full_counts t s accepted.fits))
+    (cases (is_ok (step_answer t s row).answer))
 
 -- ... so after every run
 pub run_counts : (t : Table) (s : State) → Accepted t s → (G : Run t s) → FullCounts t (last G)
@@ -141,9 +141,9 @@ module _ (t : Table) (s : State) (others : AllHold (up_to_d t s)) (wrong : FullC
   unfolding compact_answer
   compact_wrong lent = first_fails (not_compacted s) _ (wrong_first (room (length (compacted_sheet t s)) lent ∷ []))
 
-  pub kind_wrong : (row : ℕ) → kind_answer t s row ≡ kind.Refused 10 0
+  pub kind_wrong : (row : ℕ) → kind_answer t s row ≡ no 10 0
   unfolding kind_answer
-  kind_wrong row = first_fails kind.Refused _ (wrong_first [])
+  kind_wrong row = first_fails no _ (wrong_first [])
 
   pub step_wrong : (row : ℕ) → step_answer t s row ≡ not_taken s 10 0
   unfolding step_answer

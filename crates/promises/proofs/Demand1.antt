@@ -58,9 +58,7 @@ use Rattle.sheet.specs.Rules.{table_checks, no, judged}
 use Rattle.sheet.specs.Sheet.{sheet_of, size_of, head_of}
 use Rattle.codec.specs.Answers.{read_of, part_of, write_checks, write_of, written_of}
 use Rattle.state.specs.declared.State.{State}
-use Rattle.state.specs.declared.StepKind.{StepKind}
-use Rattle.state.specs.declared.StepKind.TheVariants as kind
-use Rattle.moves.specs.Steps.{kind_at, listed_of, start_of, stepped_of}
+use Rattle.moves.specs.Steps.{kind_at, listed_of, start_of, stepped_of, Kind}
 use Rattle.moves.specs.Standing.{waiting_of, awaits_of}
 use Rattle.compacted.specs.Compacted.{compacted_sheet}
 use Rattle.engine.specs.declared.Stepped.{Stepped}
@@ -223,7 +221,7 @@ unfolding damage_answer damage_buffer
 damage_sheet_answers t row out = both_answered no (Ok (length (shown_sheet t row))) (λ number place. out) (written (shown_sheet t row) out) (damage_checks t row (length out))
 
 -- `step_kind`: the kind
-pub step_kind_answers : (t : Table) (s : State) (row : ℕ) → Answered kind.Refused (kind_at t s row) (row_checks t s row) (kind_answer t s row)
+pub step_kind_answers : (t : Table) (s : State) (row : ℕ) → Answered no (kind_at t s row) (row_checks t s row) (kind_answer t s row)
 step_kind_answers = kind_answered
 
 -- `take_step`: the kind and the state after; a refusal hands the state back as it was
@@ -242,9 +240,9 @@ module _ {M : Type 1} {𝓤 : Ura M} (𝓛 : Logic 𝓤) (at_mem : Memory → SP
   abbrev asked : ℕ
   asked = a.1.1.1.1.0
 
-  pub step_in_place_answers : (z : AtExit step_in_place_contract.ended κs) (r : Res step_in_place_contract.signature κs) → ent 𝓤 ((step_in_place_contract.clauses 𝓛 at_mem run κs a).ensures tt r z) (fact 𝓤 (Answered {A = StepKind × State} (λ number place. (kind.Refused number place, was)) (kind_at its_table was asked, stepped_of its_table was asked) (row_checks its_table was asked) (r, z.0.now)))
+  pub step_in_place_answers : (z : AtExit step_in_place_contract.ended κs) (r : Res step_in_place_contract.signature κs) → ent 𝓤 ((step_in_place_contract.clauses 𝓛 at_mem run κs a).ensures tt r z) (fact 𝓤 (Answered {A = Kind × State} (λ number place. (no number place, was)) (kind_at its_table was asked, stepped_of its_table was asked) (row_checks its_table was asked) (r, z.0.now)))
   step_in_place_answers z r =
-      fact_mono 𝓤 _ _ (λ (told, left, _). subst (Answered {A = StepKind × State} _ _ (row_checks its_table was asked)) (λ i. (sym told i, sym left i)) (map_answered (λ (x : Stepped). (x.answer, x.state)) (step_answered its_table was asked)))
+      fact_mono 𝓤 _ _ (λ (told, left, _). subst (Answered {A = Kind × State} _ _ (row_checks its_table was asked)) (λ i. (sym told i, sym left i)) (map_answered (λ (x : Stepped). (x.answer, x.state)) (step_answered its_table was asked)))
 
 -- "The checks run in the order of the numbers; a call skips those that do not concern it." 13 of document 02, request 3, "stands after 7 and before 8"; 15 of request 9 "stands just before 12".
 abbrev numbers : List Check → List ℕ

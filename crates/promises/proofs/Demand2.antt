@@ -1,4 +1,5 @@
 -- DEMAND 2: what the calls answer follows document 01, and through it report R. Assumes nothing.
+use Rattle.std.specs.Result.{is_ok}
 use Rattle.sheet.specs.declared.Refusal.{Refusal}
 use Rattle.std.specs.Prelude.{Result, Ok}
 use Prim.Native.Nat.{ℕ, ◌*◌, ◌<◌, ◌≤◌}
@@ -54,10 +55,9 @@ use Rattle.codec.proofs.Judged.{accepted_is, is_accepted}
 use Rattle.codec.proofs.RoundTrip.{read_then_written, written_front, written_then_read, size_told, terms_handed, conditions_handed}
 use Rattle.codec.proofs.Parts.{part_whole}
 use Rattle.state.specs.declared.State.{State}
-use Rattle.state.specs.declared.StepKind.{StepKind}
 use Rattle.state.specs.declared.StepKind.TheVariants.{Clean}
 use Rattle.state.specs.State.{side_mark}
-use Rattle.moves.specs.Steps.{marks_of, links_of, left_in, kind_in, has_step, listed_of, stepped_of, is_waiting_pick}
+use Rattle.moves.specs.Steps.{marks_of, links_of, left_in, kind_in, has_step, listed_of, stepped_of, is_waiting_pick, Kind}
 use Rattle.moves.specs.Fits.{held, clear_ok, waits_fit, clear_fit}
 use Rattle.moves.specs.Above.{Below, PickAbove}
 use Rattle.moves.proofs.Below.{held_said, waits_said}
@@ -232,7 +232,7 @@ module _ (κs : Lfts 3) (a : ArgsD waits-for.signature κs) (z : AtExit (ended_o
 
 module _ (κs : Lfts 2) (a : ArgsD step-kind.signature κs) (z : AtExit (ended_of 2 step-kind-kinds.ps step-kind-kinds.r) κs) (r : ResD step-kind.signature κs) (asked : step-kind-reads.Post κs a r z) where
   pub kind_accepts : (step_values r).refusal ≡ 0 → Accepted (table_of a.1.0 a.1.1.0.now a.1.1.1.0.now) a.0
-  kind_accepts e = kind_unrefused _ a.0 asked.1 _ (ap (λ (k : StepKind). (step_values k).refusal) (sym asked.0) ∙ e)
+  kind_accepts e = kind_unrefused _ a.0 asked.1 _ (ap (λ (k : Kind). (step_values k).refusal) (sym asked.0) ∙ e)
 
 module _ (κs : Lfts 2) (a : ArgsD take_step.signature κs) (z : AtExit (ended_of 2 take-step-kinds.ps take-step-kinds.r) κs) (r : ResD take_step.signature κs) (took : take-step-reads.Post κs a r z) where
   pub take_accepts : (step_values r.answer).refusal ≡ 0 → Accepted (table_of a.1.0 a.1.1.0.now a.1.1.1.0.now) a.0
@@ -245,7 +245,7 @@ module _ (κs : Lfts 3) (a : ArgsD compact.signature κs) (z : AtExit (ended_of 
 -- ... of the record as it was lent, at every model
 module _ {M : Type 1} {𝓤 : Ura M} (𝓛 : Logic 𝓤) (at_mem : Memory → SProp 𝓤) (run : Routine → Fun 𝓤) (κs : Lfts 3) (a : Args step-in-place.signature κs) (z : AtExit step-in-place.ended κs) (r : Res step-in-place.signature κs) where
   pub in_place_accepts : ent 𝓤 ((step-in-place.clauses 𝓛 at_mem run κs a).ensures tt r z) (fact 𝓤 ((step_values r).refusal ≡ 0 → Accepted (table_of a.1.0 a.1.1.0.now a.1.1.1.0.now) a.0.now))
-  in_place_accepts = fact_mono 𝓤 _ _ (λ (told, _, size) e. step_unrefused _ a.0.now size _ (ap (λ (k : StepKind). (step_values k).refusal) (sym told) ∙ e))
+  in_place_accepts = fact_mono 𝓤 _ _ (λ (told, _, size) e. step_unrefused _ a.0.now size _ (ap (λ (k : Kind). (step_values k).refusal) (sym told) ∙ e))
 
 -- A table and a state that are accepted are answered: with room for 256 rows `list_steps` refuses nothing.
 pub accepted_answered : (t : Table) (s : State) → Accepted t s → (lent : ℕ) → 256 ≤ lent → (size_values (list_answer t s lent)).refusal ≡ 0
@@ -255,7 +255,7 @@ accepted_answered = accepted_listed
 pub fresh_fits : (t : Table) → (refusal_of t).number ≡ 0 → (mode : ℕ) → mode ≤ 1 → Accepted t (fresh_in t mode)
 fresh_fits = fresh_accepted
 
-pub step_fits : (t : Table) (s : State) → Accepted t s → (row : ℕ) → (step_answer t s row).ok ≡ true → Accepted t (next t s row)
+pub step_fits : (t : Table) (s : State) → Accepted t s → (row : ℕ) → is_ok (step_answer t s row).answer ≡ true → Accepted t (next t s row)
 step_fits = taken_keeps
 
 -- (c) "every row below a waiting ACT, OUT or JOIN waits"; (d) "each link set by the remainder is unset"
@@ -282,7 +282,7 @@ pub listed_in_any : (t : Table) (s : State) (lent : List ℕ) → length (listed
 listed_in_any = listed_any
 
 -- `take_step` takes what `list_steps` lists, and answers what `step_kind` answers
-pub taken_listed : (t : Table) (s : State) (row : ℕ) → ((step_answer t s row).ok ≡ true) ↔ Memᴰ row (listed_rows t s)
+pub taken_listed : (t : Table) (s : State) (row : ℕ) → (is_ok (step_answer t s row).answer ≡ true) ↔ Memᴰ row (listed_rows t s)
 taken_listed = ok_listed
 
 pub taken_kind : (t : Table) (s : State) (row : ℕ) → (step_answer t s row).answer ≡ kind_answer t s row
@@ -308,15 +308,15 @@ module _ (t : Table) (s : State) (accepted : Accepted t s) (row : ℕ) (listed :
   listed_allowed = rw (is, kind_is t s free row) (steps-allowed t (formed accepted) (one-source-in accepted) s accepted.sized row has)
 
   -- "ACT in front: passed." "OUT in front: passed". "JOIN in front with a true condition: passed". With a false condition "dropped".
-  pub row_done : ((kind_answer t s row ≡ Clean) × (marks_of after row ≡ 4)) ⊎ ((kind_answer t s row ≡ Clean → ⊥) × (marks_of after row ≡ 1))
+  pub row_done : ((kind_answer t s row ≡ Ok Clean) × (marks_of after row ≡ 4)) ⊎ ((kind_answer t s row ≡ Ok Clean → ⊥) × (marks_of after row ≡ 1))
   row_done = rw is (⊎_elim (λ (e, k). inr (k, row_marked t (formed accepted) s accepted.sized row takes e)) (λ (e, k). inl (k, row_marked t (formed accepted) s accepted.sized row drops e)) (turned t s free row listed))
 
   -- "Each of these also decides every waiting PICK above it towards it": a waiting PICK k, with the row below its child c
-  pub picks_decided : (kind_answer t s row ≡ Clean → ⊥) → (k c : ℕ) (side : Bool) → k < t.n → is_waiting_pick (row_at t.terms k) (marks_of s k) ≡ true → Child (row_at t.terms k) side c → rows (term (row_at t.terms) t.n c) row ≡ true → marks_of after k ≡ side_mark side
+  pub picks_decided : (kind_answer t s row ≡ Ok Clean → ⊥) → (k c : ℕ) (side : Bool) → k < t.n → is_waiting_pick (row_at t.terms k) (marks_of s k) ≡ true → Child (row_at t.terms k) side c → rows (term (row_at t.terms) t.n c) row ≡ true → marks_of after k ≡ side_mark side
   picks_decided never k c side h waits child below = rw is (⊎_elim (λ (e, _). pick_decided t (formed accepted) s accepted.sized k c side h waits child row below e) (λ (_, k). absurd (never k)) (turned t s free row listed))
 
   -- "Nothing else changes": a mark that changes is the row's or that of a PICK above it, which a clean step does not decide; a link that changes was unset
-  pub nothing_else : (after.mode ≡ s.mode) × ((k : ℕ) → (marks_of after k ≡ marks_of s k) ⊎ ((k ≡ row) ⊎ ((kind_answer t s row ≡ Clean → ⊥) × (side : Bool) × PickAbove t s row k side × (marks_of after k ≡ side_mark side)))) × Grows (links_of s) (links_of after)
+  pub nothing_else : (after.mode ≡ s.mode) × ((k : ℕ) → (marks_of after k ≡ marks_of s k) ⊎ ((k ≡ row) ⊎ ((kind_answer t s row ≡ Ok Clean → ⊥) × (side : Bool) × PickAbove t s row k side × (marks_of after k ≡ side_mark side)))) × Grows (links_of s) (links_of after)
   nothing_else = rw (is, kind_is t s free row) (nothing-else-steps t (formed accepted) (one-source-in accepted) accepted.sized accepted.fits row has)
 
 -- "and each allowed step is listed": at its row, with its kind, and taking it leads where R's rule leads

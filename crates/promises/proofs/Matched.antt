@@ -1,4 +1,5 @@
 -- The runs of the compacted table over the calls, beside those from the old state; and the runs of tables for which the calls answer alike. Assumes nothing.
+use Rattle.std.specs.Result.{is_ok}
 use Rattle.std.specs.Prelude.{Result}
 use Prim.Native.Nat.{ℕ}
 use mathlib.Core.Path.{◌≡◌, refl, sym, ◌∙◌, ap, ap₂, subst, subst₂, fun_ext}
@@ -12,8 +13,7 @@ use Rattle.sheet.specs.Rules.{refuse, refusal_of}
 use Rattle.sheet.proofs.Accepted.{Meets, meets}
 use Rattle.sheet.proofs.Beyond.{meets_accepted}
 use Rattle.state.specs.declared.State.{State}
-use Rattle.state.specs.declared.StepKind.{StepKind}
-use Rattle.moves.specs.Steps.{kind_at, listed_of}
+use Rattle.moves.specs.Steps.{kind_at, listed_of, Kind}
 use Rattle.moves.specs.Runs.{Run as Steps, taken as steps_taken}
 use Rattle.moves.proofs.Allowed.{listed_rows_law}
 use Rattle.compacted.specs.Compacted.{rank, compacted, restarted, reranked}
@@ -26,7 +26,7 @@ use Rattle.promises.proofs.Calls.{to_steps, from_steps, run_keeps}
 use Rattle.promises.proofs.Alike.{with_kinds, steps_are, link_is}
 
 -- rows that are renumbered, with kinds that agree
-ranked_steps : (ρ : ℕ → ℕ) (K K' : ℕ → StepKind) (l : List ℕ) → ((r : ℕ) → Memᴰ r l → K' (ρ r) ≡ K r) → with_kinds K' (map ρ l) ≡ map (reranked ρ) (with_kinds K l)
+ranked_steps : (ρ : ℕ → ℕ) (K K' : ℕ → Kind) (l : List ℕ) → ((r : ℕ) → Memᴰ r l → K' (ρ r) ≡ K r) → with_kinds K' (map ρ l) ≡ map (reranked ρ) (with_kinds K l)
 ranked_steps ρ K K' [] f = refl
 ranked_steps ρ K K' (r ∷ l) f = λ j. record { row = ρ r; kind = f r (Memᴰ.head refl) j } ∷ ranked_steps ρ K K' l (λ k m. f k (Memᴰ.tail m)) j
 
@@ -104,4 +104,4 @@ module _ (t t' : Table) (same : SameAnswers t t') where
   run_alike {s} (more row listed ok G) =
       let e = same.stepped s row in
       let (H, p, q) = subst (λ (z : State). (H : Run t' z) × (taken H ≡ taken G) × (last H ≡ last G)) (ap (λ (k : Stepped). k.state) e) (run_alike G) in
-      (more row (subst (Memᴰ row) (rows_alike s (replicate 256 0)) listed) (sym (ap (λ (k : Stepped). k.ok) e) ∙ ok) H, (λ i. record { row = row; kind = sym (ap (λ (k : Stepped). k.answer) e) i } ∷ p i), q)
+      (more row (subst (Memᴰ row) (rows_alike s (replicate 256 0)) listed) (sym (ap (λ (k : Stepped). is_ok k.answer) e) ∙ ok) H, (λ i. record { row = row; kind = sym (ap (λ (k : Stepped). k.answer) e) i } ∷ p i), q)

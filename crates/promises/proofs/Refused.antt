@@ -17,12 +17,11 @@ use Rattle.laws.proofs.Lowest.{lowest_from, lowest_below, lowest_at}
 use Rattle.laws.proofs.Checks.{checked_fails, checked_holds, checked_append, place_is, place_holds, holds_end, all_hold}
 use Rattle.sheet.specs.declared.Refusal.{Refusal}
 use Rattle.sheet.specs.Table.{Table}
-use Rattle.sheet.specs.Rules.{sized, sizes, from3, refuse}
+use Rattle.sheet.specs.Rules.{sized, sizes, from3, refuse, no}
 use Rattle.sheet.specs.Sheet.{number_at, head_of, terms_of, conditions_of, sheet_size, contents, table_in, sheet_checks}
 use Rattle.sheet.proofs.Refusals.{without}
 use Rattle.codec.proofs.Reading.{bodies}
 use Rattle.state.specs.declared.State.{State}
-use Rattle.state.specs.declared.StepKind.TheVariants.{Refused}
 use Rattle.moves.specs.Steps.{kind_at}
 use Rattle.sheet_engine.specs.Answers.{kind_answer, not_taken, step_answer}
 use Rattle.sheet_engine.specs.Values.{row_checks, was_taken, Answers}
@@ -167,8 +166,8 @@ sheet_answered refused good s =
 
 -- THE STEP OF A ROW
 module _ (t : Table) (s : State) (row : ℕ) where
-  pub kind_answered : Answered Refused (kind_at t s row) (row_checks t s row) (kind_answer t s row)
-  kind_answered = rw (kind_checked t s row) (answered Refused (kind_at t s row) (row_checks t s row))
+  pub kind_answered : Answered no (kind_at t s row) (row_checks t s row) (kind_answer t s row)
+  kind_answered = rw (kind_checked t s row) (answered no (kind_at t s row) (row_checks t s row))
 
   pub step_answered : Answered (not_taken s) (was_taken t s row) (row_checks t s row) (step_answer t s row)
   step_answered = rw (step_checked t s row) (answered (not_taken s) (was_taken t s row) (row_checks t s row))

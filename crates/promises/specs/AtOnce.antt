@@ -1,4 +1,5 @@
 -- Document 02, request 7: what is shown of two listed steps, over what the calls answer.
+use Rattle.std.specs.Result.{is_ok}
 use Rattle.std.specs.Prelude.{◌≡◌, true, ℕ}
 use mathlib.Core.List.{Memᴰ}
 use Rattle.sheet.specs.Table.{Table}
@@ -8,7 +9,7 @@ use Rattle.promises.specs.Calls.{listed_rows, next}
 
 -- the step of row i "may be taken first", and after it that of row j "is still listed with its kind unchanged"
 pub record First (t : Table) (s : State) (i j : ℕ) : Type 0 where
-  pub may_be_taken : (step_answer t s i).ok ≡ true
+  pub may_be_taken : is_ok (step_answer t s i).answer ≡ true
   pub still_listed : Memᴰ j (listed_rows t (next t s i))
   pub same_kind : kind_answer t (next t s i) j ≡ kind_answer t s j
 

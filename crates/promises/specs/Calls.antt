@@ -1,4 +1,5 @@
 -- What a caller sees through the calls, by the definitions that their contracts cite: the steps that are listed in a state, how it stands, what it waits for, and runs of steps that are taken.
+use Rattle.std.specs.Result.{is_ok}
 use Rattle.std.specs.Prelude.{ℕ, ◌≤◌, ◌≡◌, true, ◌⊎◌, Result, Ok, Err, get_or, length, take, replicate}
 use mathlib.Core.List.{List, [], ◌∷◌, map, Memᴰ}
 use Rattle.calculus.specs.Process.{Process}
@@ -121,7 +122,7 @@ Allowed t s α P v = Rule (eval_in t) (mode_of s.mode) (left_in t s) (links_of s
 -- A run of the calls: rows, each listed by `list_steps` and taken by `take_step` in the state before, which hands out the state after.
 pub data Run (t : Table) : State → Type 0 where
   done : {s : State} → Run t s
-  more : {s : State} (row : ℕ) → Memᴰ row (listed_rows t s) → (step_answer t s row).ok ≡ true → Run t (next t s row) → Run t s
+  more : {s : State} (row : ℕ) → Memᴰ row (listed_rows t s) → is_ok (step_answer t s row).answer ≡ true → Run t (next t s row) → Run t s
 
 -- its steps, with the kinds that `take_step` answered, and the state after it
 unfoldable pub taken : {t : Table} {s : State} → Run t s → List Taken

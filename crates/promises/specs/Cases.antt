@@ -1,4 +1,5 @@
 -- Document 01, "Examples on each side": the cases marked P, and after document 02 how sheet X stands, what is left of it, what it is when compacted, what its damage sheet is, and the steps of sheet Y in two orders, as one table. A row is a sheet in bytes, what is asked of it, and what the calls answer.
+use Rattle.moves.specs.Steps.{Kind}
 use Rattle.std.specs.Prelude.{ℕ, ◌-◌, List, [], ◌∷◌, ◌++◌, Result, Ok, Err, take, replicate}
 use Rattle.sheet.specs.declared.Head.{Head}
 use Rattle.sheet.specs.declared.Refusal.{Refusal}
@@ -7,7 +8,6 @@ use Rattle.sheet.specs.Rules.{no}
 use Rattle.sheet.specs.Sheet.{sheet_of, terms_of, conditions_of}
 use Rattle.codec.specs.Answers.{read_of, part_of}
 use Rattle.state.specs.declared.State.{State}
-use Rattle.state.specs.declared.StepKind.{StepKind}
 use Rattle.state.specs.declared.StepKind.TheVariants.{Act, Set, Open, Clean}
 use Rattle.moves.specs.Runs.{Taken}
 use Rattle.verdict.specs.declared.Verdict as declared_verdict
@@ -31,7 +31,7 @@ pub data Question : Type 0 where
 -- the answers of `take_step` on the way and of `list_steps`, the listed steps with their kinds, and the links of the sheet; or the answer of `standing`, with the rows waited for and, from `waits_for`, what each waits for; or the answers of `acts_left` and `links_unset`; or the sheet and the state that `compact` makes, of the state the links of the sheet and the two counts; or the answer of `damage_sheet`, with the sheet
 pub data Answer : Type 0 where
   Verdict : Result declared_verdict.Verdict Refusal → Answer
-  Seen : (took : List StepKind) (answer : Result ℕ Refusal) (steps : List Taken) (links : List ℕ) → Answer
+  Seen : (took : List Kind) (answer : Result ℕ Refusal) (steps : List Taken) (links : List ℕ) → Answer
   Stands : (answer : Result declared_stands.Stands Refusal) (rows links : List ℕ) → Answer
   Counts : (acts unset : ℕ) → Answer
   Made : (sheet links : List ℕ) (acts unset : ℕ) → Answer
@@ -51,7 +51,7 @@ unfoldable pub table_read : List ℕ → Table
 table_read s = table_from (read_of s) (part_of s (terms_of s)) (part_of s (conditions_of s))
 
 -- the answers of `take_step`, row after row, and the state after them
-abbrev pub took_all : Table → State → List ℕ → List StepKind
+abbrev pub took_all : Table → State → List ℕ → List Kind
 took_all t s [] = []
 took_all t s (row ∷ rows) = (step_answer t s row).answer ∷ took_all t (step_answer t s row).state rows
 
@@ -59,7 +59,7 @@ abbrev pub state_after : Table → State → List ℕ → State
 state_after t s [] = s
 state_after t s (row ∷ rows) = state_after t (step_answer t s row).state rows
 
-abbrev pub seen_in : Table → State → List StepKind → Answer
+abbrev pub seen_in : Table → State → List Kind → Answer
 seen_in t s took = Seen took (list_answer t s 256) (listed_steps t s) (take t.m s.links)
 
 abbrev pub stands_in : Table → State → Answer
@@ -144,7 +144,7 @@ abbrev pub damage_second : List ℕ
 damage_second = sheet_of (record { evaluation = 0; m = 2; n = 7; k = 3 }) ((4 ∷ 1 ∷ 5 ∷ 0 ∷ []) ++ (1 ∷ 1 ∷ 2 ∷ 0 ∷ []) ++ (3 ∷ 2 ∷ 3 ∷ 0 ∷ []) ++ (1 ∷ 2 ∷ 4 ∷ 0 ∷ []) ++ (0 ∷ 0 ∷ 0 ∷ 0 ∷ []) ++ (2 ∷ 1 ∷ 1 ∷ 6 ∷ []) ++ (0 ∷ 0 ∷ 0 ∷ 0 ∷ [])) (FALSE ++ LINK 1 ++ EQ 0 1)
 
 -- a step with its kind
-abbrev pub at : ℕ → StepKind → Taken
+abbrev pub at : ℕ → Kind → Taken
 at row kind = record { row = row; kind = kind }
 
 abbrev pub of : List ℕ → Question → Answer → Case
@@ -153,14 +153,14 @@ of sheet question answer = record { sheet = sheet; question = question; answer =
 abbrev pub cases : List Case
 cases =
     -- "X fresh lists 2, 4": in both modes
-    of X (after 0 []) (Seen [] (Ok 2) (at 2 (Act 10) ∷ at 4 (Set 0 1) ∷ []) (0 ∷ [])) ∷
-    of X (after 1 []) (Seen [] (Ok 2) (at 2 (Act 10) ∷ at 4 (Set 0 1) ∷ []) (0 ∷ [])) ∷
+    of X (after 0 []) (Seen [] (Ok 2) (at 2 (Ok (Act 10)) ∷ at 4 (Ok (Set 0 1)) ∷ []) (0 ∷ [])) ∷
+    of X (after 1 []) (Seen [] (Ok 2) (at 2 (Ok (Act 10)) ∷ at 4 (Ok (Set 0 1)) ∷ []) (0 ∷ [])) ∷
     -- "plain, after 2, nothing", "cleaning, after 2, row 6"
-    of X (after 0 (2 ∷ [])) (Seen (Act 10 ∷ []) (Ok 0) [] (0 ∷ [])) ∷
-    of X (after 1 (2 ∷ [])) (Seen (Act 10 ∷ []) (Ok 1) (at 6 Open ∷ []) (1 ∷ [])) ∷
+    of X (after 0 (2 ∷ [])) (Seen (Ok (Act 10) ∷ []) (Ok 0) [] (0 ∷ [])) ∷
+    of X (after 1 (2 ∷ [])) (Seen (Ok (Act 10) ∷ []) (Ok 1) (at 6 (Ok Open) ∷ []) (1 ∷ [])) ∷
     -- "cleaning, X after 4: link 0 true, row 6 listed as clean", "plain, after 4: nothing"
-    of X (after 1 (4 ∷ [])) (Seen (Set 0 1 ∷ []) (Ok 1) (at 6 Clean ∷ []) (2 ∷ [])) ∷
-    of X (after 0 (4 ∷ [])) (Seen (Set 0 1 ∷ []) (Ok 0) [] (2 ∷ [])) ∷
+    of X (after 1 (4 ∷ [])) (Seen (Ok (Set 0 1) ∷ []) (Ok 1) (at 6 (Ok Clean) ∷ []) (2 ∷ [])) ∷
+    of X (after 0 (4 ∷ [])) (Seen (Ok (Set 0 1) ∷ []) (Ok 0) [] (2 ∷ [])) ∷
     -- document 02, requests 1 and 5: plain waits for row 6, after 2 for link 0, after 4 for none, since its condition is false
     of X (standing 0 []) (Stands (Ok Enabled) [] []) ∷
     of X (standing 0 (2 ∷ [])) (Stands (Ok (Waiting 1)) (6 ∷ []) (0 ∷ [])) ∷
@@ -178,19 +178,19 @@ cases =
     of X (counts 1 (4 ∷ 6 ∷ [])) (Counts 0 0) ∷
     of X (counts 1 (2 ∷ 6 ∷ 7 ∷ [])) (Counts 0 0) ∷
     -- request 7: rows 2 and 4 of Y lie on the two sides of the FLOW, and either may be taken first; each decides the PICK above, and link 1 becomes false. Across the PICK it is not so: after 6 neither is listed
-    of Y (after 1 []) (Seen [] (Ok 3) (at 2 (Act 10) ∷ at 4 (Set 0 1) ∷ at 6 (Set 1 1) ∷ []) (0 ∷ 0 ∷ [])) ∷
-    of Y (after 1 (2 ∷ [])) (Seen (Act 10 ∷ []) (Ok 1) (at 4 (Set 0 1) ∷ []) (0 ∷ 1 ∷ [])) ∷
-    of Y (after 1 (4 ∷ [])) (Seen (Set 0 1 ∷ []) (Ok 1) (at 2 (Act 10) ∷ []) (2 ∷ 1 ∷ [])) ∷
-    of Y (after 1 (2 ∷ 4 ∷ [])) (Seen (Act 10 ∷ Set 0 1 ∷ []) (Ok 0) [] (2 ∷ 1 ∷ [])) ∷
-    of Y (after 1 (4 ∷ 2 ∷ [])) (Seen (Set 0 1 ∷ Act 10 ∷ []) (Ok 0) [] (2 ∷ 1 ∷ [])) ∷
-    of Y (after 1 (6 ∷ [])) (Seen (Set 1 1 ∷ []) (Ok 0) [] (1 ∷ 2 ∷ [])) ∷
+    of Y (after 1 []) (Seen [] (Ok 3) (at 2 (Ok (Act 10)) ∷ at 4 (Ok (Set 0 1)) ∷ at 6 (Ok (Set 1 1)) ∷ []) (0 ∷ 0 ∷ [])) ∷
+    of Y (after 1 (2 ∷ [])) (Seen (Ok (Act 10) ∷ []) (Ok 1) (at 4 (Ok (Set 0 1)) ∷ []) (0 ∷ 1 ∷ [])) ∷
+    of Y (after 1 (4 ∷ [])) (Seen (Ok (Set 0 1) ∷ []) (Ok 1) (at 2 (Ok (Act 10)) ∷ []) (2 ∷ 1 ∷ [])) ∷
+    of Y (after 1 (2 ∷ 4 ∷ [])) (Seen (Ok (Act 10) ∷ Ok (Set 0 1) ∷ []) (Ok 0) [] (2 ∷ 1 ∷ [])) ∷
+    of Y (after 1 (4 ∷ 2 ∷ [])) (Seen (Ok (Set 0 1) ∷ Ok (Act 10) ∷ []) (Ok 0) [] (2 ∷ 1 ∷ [])) ∷
+    of Y (after 1 (6 ∷ [])) (Seen (Ok (Set 1 1) ∷ []) (Ok 0) [] (1 ∷ 2 ∷ [])) ∷
     -- request 8: after 2, of the PICK nothing is left but NIL, and the JOIN reads link 0, whose OUT row is spent; after 4 and the clean step the JOIN is NIL, and its ACT 12 is gone; a sheet that nobody has run keeps its rows
     of X (compacting 1 (2 ∷ [])) (Made (compacted_x 5 ((5 ∷ 1 ∷ 2 ∷ 0 ∷ []) ++ (0 ∷ 0 ∷ 0 ∷ 0 ∷ []) ++ (3 ∷ 2 ∷ 3 ∷ 0 ∷ []) ++ (1 ∷ 12 ∷ 4 ∷ 0 ∷ []) ++ (0 ∷ 0 ∷ 0 ∷ 0 ∷ []))) (1 ∷ []) 1 0) ∷
     of X (compacting 1 (4 ∷ 6 ∷ [])) (Made (compacted_x 3 ((5 ∷ 1 ∷ 2 ∷ 0 ∷ []) ++ (0 ∷ 0 ∷ 0 ∷ 0 ∷ []) ++ (0 ∷ 0 ∷ 0 ∷ 0 ∷ []))) (2 ∷ []) 0 0) ∷
     of X (compacting 0 []) (Made (compacted_x 9 (terms_of X)) (0 ∷ []) 2 1) ∷
     -- request 9: row 6 of X fails, and has a damage sheet, on which cleaning does activities 1 and 2, and plain waits after 1; row 7 is no JOIN, and no row is 300
     of X (damage 6) (Shown (Ok 58) damage_x) ∷
-    of damage_x (after 1 (1 ∷ 2 ∷ 3 ∷ [])) (Seen (Act 1 ∷ Open ∷ Act 2 ∷ []) (Ok 0) [] (1 ∷ [])) ∷
+    of damage_x (after 1 (1 ∷ 2 ∷ 3 ∷ [])) (Seen (Ok (Act 1) ∷ Ok Open ∷ Ok (Act 2) ∷ []) (Ok 0) [] (1 ∷ [])) ∷
     of damage_x (standing 0 (1 ∷ [])) (Stands (Ok (Waiting 1)) (2 ∷ []) (0 ∷ [])) ∷
     of X (damage 7) (Shown (no 15 7) []) ∷
     of X (damage 300) (Shown (no 15 300) []) ∷

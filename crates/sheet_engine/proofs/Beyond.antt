@@ -23,7 +23,6 @@ use Rattle.sheet.proofs.Refusals.{one_place_fails, one_place_holds}
 use Rattle.sheet.proofs.Beyond.{cut_checked}
 use Rattle.codec.specs.Answers.{write_checks, write_of, written_of}
 use Rattle.state.specs.declared.State.{State}
-use Rattle.state.specs.declared.StepKind.TheVariants as kind
 use Rattle.state.specs.State.{fresh_of}
 use Rattle.moves.specs.Steps.{kind_at, start_of}
 use Rattle.moves.specs.Fits.{mode_check, fit_checks}
@@ -161,7 +160,7 @@ module _ (t : Table) (s : State) where
 
   pub cut_kind_answer : (row : ℕ) → kind_answer t s row ≡ kind_answer (cut t) s row
   unfolding kind_answer
-  cut_kind_answer row = call_cut kind.Refused (kind_at t s row) (kind_at (cut t) s row) t s (λ w. cut_kind t w s row)
+  cut_kind_answer row = call_cut no (kind_at t s row) (kind_at (cut t) s row) t s (λ w. cut_kind t w s row)
 
   pub cut_step_answer : (row : ℕ) → step_answer t s row ≡ step_answer (cut t) s row
   unfolding step_answer taken_answer

@@ -1,4 +1,5 @@
 -- The answers of the calls with a table and a state, from what the judge, the fit and the engine say. Assumes nothing.
+use Rattle.std.specs.Result.{is_ok}
 use Prim.Native.Nat.{ℕ, ◌<◌, ◌≤◌}
 use mathlib.Core.Path.{◌≡◌, refl, sym, ◌∙◌, ap}
 use mathlib.Core.Bool.{Bool, true, false, cond, not, true≢false}
@@ -25,10 +26,8 @@ use Rattle.sheet.specs.Accepted.{WellFormed}
 use Rattle.sheet.proofs.Accepted.{meets, well_formed}
 use Rattle.sheet.proofs.Refusals.{told_refused, told_accepted, judged_refused, judged_accepted, without, refused_by, accepted_by, table_refused_first, table_accepted_first, one_place_fails, one_place_holds}
 use Rattle.state.specs.declared.State.{State}
-use Rattle.state.specs.declared.StepKind.{StepKind}
-use Rattle.state.specs.declared.StepKind.TheVariants as kind
 use Rattle.state.specs.State.{restart_of}
-use Rattle.moves.specs.Steps.{nodes, turn_at, kind_turned, kind_at, is_some, has_step, listed_of, stepped_of}
+use Rattle.moves.specs.Steps.{Kind, nodes, turn_at, kind_turned, kind_at, is_some, has_step, listed_of, stepped_of}
 use Rattle.moves.specs.Standing.{waiting_of, awaits_of}
 use Rattle.moves.specs.Fits.{mode_check, fit_checks}
 use Rattle.moves.proofs.Standing.{awaits_length}
@@ -38,7 +37,7 @@ use Rattle.fitting.specs.Checks.{state_checks}
 use Rattle.fitting.proofs.Fitted.{state_checks_law, fits_accepted}
 use Rattle.engine.specs.declared.Stepped.{Stepped}
 use Rattle.engine.specs.ByValue.{taken_answer}
-use Rattle.engine.proofs.Known.{kind_step, answer_refused}
+use Rattle.engine.proofs.Known.{refused_step, answer_refused}
 use Rattle.sheet_engine.specs.declared.Compacted.{Compacted}
 use Rattle.sheet_engine.specs.declared.Stands.{Stands}
 use Rattle.sheet_engine.specs.Answers.{call_checks, list_answer, list_buffer, standing_of, standing_answer, standing_buffer, waits_answer, waits_buffer, kind_answer, not_taken, step_answer, not_compacted, was_compacted, compact_answer, compact_buffer}
@@ -87,13 +86,13 @@ module _ (t : Table) (s : State) (r : Refusal) (told : r ≡ checked refuse (ref
   unfolding without
   accepted_call answer good e = accepted_by answer good (call_checks t s) refl (rw told at e)
 
-  pub kind_refused : (row : ℕ) → (r.number ≡ 0 → ⊥) → kind.Refused r.number r.place ≡ kind_answer t s row
+  pub kind_refused : (row : ℕ) → (r.number ≡ 0 → ⊥) → Err r ≡ kind_answer t s row
   unfolding kind_answer
-  kind_refused row h = refused_call kind.Refused (kind_at t s row) h
+  kind_refused row h = refused_call no (kind_at t s row) h
 
-  pub kind_given : (row : ℕ) (k : StepKind) → r.number ≡ 0 → k ≡ kind_at t s row → k ≡ kind_answer t s row
+  pub kind_given : (row : ℕ) (k : Kind) → r.number ≡ 0 → k ≡ kind_at t s row → k ≡ kind_answer t s row
   unfolding kind_answer
-  kind_given row k e f = f ∙ accepted_call kind.Refused (kind_at t s row) e
+  kind_given row k e f = f ∙ accepted_call no (kind_at t s row) e
 
   pub step_refused_law : (row : ℕ) → (r.number ≡ 0 → ⊥) → not_taken s r.number r.place ≡ step_answer t s row
   unfolding step_answer
@@ -233,41 +232,41 @@ call_restarts t s r told e =
     sym (restarted_is t (well_formed t (meets t z)) s fits)
 
 -- where no step was taken, the state is the one that was handed in
-pub state_back : (t : Table) (s : State) (row : ℕ) → (step_answer t s row).ok ≡ false → (step_answer t s row).state ≡ s
-unfolding taken_answer
+pub state_back : (t : Table) (s : State) (row : ℕ) → is_ok (step_answer t s row).answer ≡ false → (step_answer t s row).state ≡ s
+unfolding taken_answer kind_at stepped_of
 state_back t s row off =
     by_cases (ℕ_discrete (checked refuse (refuse 0 0) (call_checks t s)).number 0)
     (λ e.
-    let k = step_given t s _ refl row _ e refl in
-    sym (ap (λ (r : Stepped). r.state) (answer_refused t s row _ refl (ap (λ (r : Stepped). r.ok) k ∙ off) ∙ k)))
+    let k = step_given t s _ refl row (taken_answer t s row) e refl in
+    ap (λ (r : Stepped). r.state) (sym k) ∙ sym (refused_step t s row (nodes t row) (turn_at t s row) (ap (λ (r : Stepped). is_ok r.answer) k ∙ off)))
     (λ h. sym (ap (λ (r : Stepped). r.state) (step_refused_law t s _ refl row h)))
 
 -- THE STEP OF A ROW: 11 is the last check
 module _ (t : Table) (s : State) (row : ℕ) where
-  pub no_kind : has_step t s row ≡ false → kind_at t s row ≡ kind.Refused 11 row
+  pub no_kind : has_step t s row ≡ false → kind_at t s row ≡ no 11 row
   unfolding has_step kind_at kind_turned
   no_kind e = at (turn_at t s row) e
     where
-      at : (o : Option Turn) → is_some o ≡ false → kind_turned (nodes t row) row o ≡ kind.Refused 11 row
+      at : (o : Option Turn) → is_some o ≡ false → kind_turned (nodes t row) row o ≡ no 11 row
       at none e = refl
       at (some u) e = absurd (true≢false e)
 
-  pub kind_checked : kind_answer t s row ≡ checked kind.Refused (kind_at t s row) (row_checks t s row)
+  pub kind_checked : kind_answer t s row ≡ checked no (kind_at t s row) (row_checks t s row)
   unfolding kind_answer checked
   kind_checked =
-      ap (λ (k : StepKind). checked kind.Refused k (call_checks t s))
+      ap (λ (k : Kind). checked no k (call_checks t s))
       (⊎_elim
-      (λ e. one_place_holds kind.Refused (kind_at t s row) (row_check t s row) [] refl e)
-      (λ e. no_kind e ∙ one_place_fails kind.Refused (kind_at t s row) (row_check t s row) [] (omega arith) e)
+      (λ e. one_place_holds no (kind_at t s row) (row_check t s row) [] refl e)
+      (λ e. no_kind e ∙ one_place_fails no (kind_at t s row) (row_check t s row) [] (omega arith) e)
       (cases (has_step t s row)))
-      ∙ sym (checked_append kind.Refused (kind_at t s row) (call_checks t s) (row_check t s row ∷ []))
+      ∙ sym (checked_append no (kind_at t s row) (call_checks t s) (row_check t s row ∷ []))
 
   pub step_checked : step_answer t s row ≡ checked (not_taken s) (was_taken t s row) (row_checks t s row)
   unfolding step_answer taken_answer checked
   step_checked =
       ap (λ (k : Stepped). checked (not_taken s) k (call_checks t s))
       (⊎_elim
-      (λ e. (λ i. record { ok = (kind_step t s row ∙ e) i; answer = kind_at t s row; state = stepped_of t s row }) ∙ one_place_holds (not_taken s) (was_taken t s row) (row_check t s row) [] refl e)
-      (λ e. sym (answer_refused t s row (kind_at t s row) refl (kind_step t s row ∙ e)) ∙ ((λ i. record { ok = false; answer = no_kind e i; state = s }) ∙ one_place_fails (not_taken s) (was_taken t s row) (row_check t s row) [] (omega arith) e))
+      (λ e. one_place_holds (not_taken s) (was_taken t s row) (row_check t s row) [] refl e)
+      (λ e. sym (answer_refused t s row _ (sym (no_kind e))) ∙ one_place_fails (not_taken s) (was_taken t s row) (row_check t s row) [] (omega arith) e)
       (cases (has_step t s row)))
       ∙ sym (checked_append (not_taken s) (was_taken t s row) (call_checks t s) (row_check t s row ∷ []))

@@ -107,7 +107,7 @@ standing_answers t s lent = rw (checked_map standing_values no (Ok (standing_of 
 
 -- a step: its values are the bytes of its row
 abbrev step_refused : ℕ → ℕ → StepValues
-step_refused number place = step_values (kind.Refused number place)
+step_refused number place = step_values (no number place)
 
 out_value : (m n k row term a b c : ℕ) → term_rule m n k row term a b c ≡ true → term ≡ 2 → bit (eqb b 1) ≡ b
 unfolding term_rule
@@ -119,13 +119,13 @@ module _ (eval : ℕ → Links → Value) (m : Mode) (v : Links) (r : ℕ) where
   abbrev turn : Prefix → Option Turn
   turn π = turn_of eval m π v
 
-  join_shown : (a c : ℕ) (x : Value) → is_some (join_turn m x) ≡ true → step_values (kind_turned (PREFIX (join a) c) r (join_turn m x)) ≡ cond (eqb (digit x) 2) (step_values kind.Open) (step_values kind.Clean)
+  join_shown : (a c : ℕ) (x : Value) → is_some (join_turn m x) ≡ true → step_values (kind_turned (PREFIX (join a) c) r (join_turn m x)) ≡ cond (eqb (digit x) 2) (step_values (Ok kind.Open)) (step_values (Ok kind.Clean))
   unfolding join_turn kind_turned kind_by kind_of digit
   join_shown a c Unset e = absurd (true≢false (sym e))
   join_shown a c True e = refl
   join_shown a c False e = at (cleans m) e
     where
-      at : (b : Bool) → is_some (cond b (some drops) none) ≡ true → step_values (kind_turned (PREFIX (join a) c) r (cond b (some drops) none)) ≡ step_values kind.Clean
+      at : (b : Bool) → is_some (cond b (some drops) none) ≡ true → step_values (kind_turned (PREFIX (join a) c) r (cond b (some drops) none)) ≡ step_values (Ok kind.Clean)
       at true e = refl
       at false e = absurd (true≢false (sym e))
 
@@ -136,10 +136,10 @@ module _ (eval : ℕ → Links → Value) (m : Mode) (v : Links) (r : ℕ) where
   unfolding turn_by turn_of kind_turned kind_by kind_of row_by shown_by
   row_shown term a b c o = at (eqb term 0) (eqb term 1) (eqb term 2) (eqb term 3) (eqb term 4) (eqb term 5) (λ e. o (eqb-true term 2 e))
     where
-      at : (t₀ t₁ t₂ t₃ t₄ t₅ : Bool) → (t₂ ≡ true → bit (eqb b 1) ≡ b) → Shown (cond t₀ NIL (cond t₁ (PREFIX (act a) b) (cond t₂ (PREFIX (out a (eqb b 1)) c) (cond t₃ (PREFIX (join a) b) (cond t₄ (BRANCH pick a b) (cond t₅ (BRANCH flow a b) NIL)))))) (cond t₁ (step_values (kind.Act a)) (cond t₂ (step_values (kind.Set a b)) (cond (eqb (digit (eval a v)) 2) (step_values kind.Open) (step_values kind.Clean))))
+      at : (t₀ t₁ t₂ t₃ t₄ t₅ : Bool) → (t₂ ≡ true → bit (eqb b 1) ≡ b) → Shown (cond t₀ NIL (cond t₁ (PREFIX (act a) b) (cond t₂ (PREFIX (out a (eqb b 1)) c) (cond t₃ (PREFIX (join a) b) (cond t₄ (BRANCH pick a b) (cond t₅ (BRANCH flow a b) NIL)))))) (cond t₁ (step_values (Ok (kind.Act a))) (cond t₂ (step_values (Ok (kind.Set a b))) (cond (eqb (digit (eval a v)) 2) (step_values (Ok kind.Open)) (step_values (Ok kind.Clean)))))
       at true t₁ t₂ t₃ t₄ t₅ o e = absurd (true≢false (sym e))
       at false true t₂ t₃ t₄ t₅ o e = refl
-      at false false true t₃ t₄ t₅ o e = ap (λ (y : ℕ). step_values (kind.Set a y)) (o refl)
+      at false false true t₃ t₄ t₅ o e = ap (λ (y : ℕ). step_values (Ok (kind.Set a y))) (o refl)
       at false false false true t₄ t₅ o e = join_shown a b (eval a v) e
       at false false false false true t₅ o e = absurd (true≢false (sym e))
       at false false false false false true o e = absurd (true≢false (sym e))
@@ -172,7 +172,7 @@ module _ (t : Table) (s : State) (row : ℕ) where
   kind_told : step_values (kind_answer t s row) ≡ checked step_refused (shown t s row) (row_checks t s row)
   unfolding kind_answer without
   kind_told =
-      checked_map step_values kind.Refused (kind_at t s row) (call_checks t s)
+      checked_map step_values no (kind_at t s row) (call_checks t s)
       ∙ by_cases (ℕ_discrete (checked refuse (refuse 0 0) (call_checks t s)).number 0)
       (λ e. ap (λ (x : StepValues). checked step_refused x (call_checks t s)) (row_told (all_held (call_checks t s) refl e)))
       (λ h. sym (refused_by step_refused _ (call_checks t s) refl h) ∙ refused_by step_refused _ (call_checks t s) refl h)

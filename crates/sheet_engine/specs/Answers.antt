@@ -7,9 +7,7 @@ use Rattle.sheet.specs.Table.{Table}
 use Rattle.sheet.specs.Rules.{table_checks, no}
 use Rattle.state.specs.declared.State.{State}
 use Rattle.sheet.specs.Sheet.{room}
-use Rattle.state.specs.declared.StepKind.{StepKind}
-use Rattle.state.specs.declared.StepKind.TheVariants as kind
-use Rattle.moves.specs.Steps.{listed_of, kind_at, start_of}
+use Rattle.moves.specs.Steps.{Kind, listed_of, kind_at, start_of}
 use Rattle.moves.specs.Standing.{joins_of, waiting_of, awaits_of}
 use Rattle.moves.specs.Fits.{mode_check, fit_checks}
 use Rattle.compacted.specs.Compacted.{compacted_sheet, restarted}
@@ -82,12 +80,12 @@ unfoldable pub waits_buffer : Table → State → List ℕ → List ℕ
 waits_buffer t s lent = checked (λ number place. lent) (written (awaits_of t s) lent) (standing_checks t s (length lent))
 
 -- the step of a row: 11 is its kind where it has none
-unfoldable pub kind_answer : Table → State → ℕ → StepKind
-kind_answer t s row = checked kind.Refused (kind_at t s row) (call_checks t s)
+unfoldable pub kind_answer : Table → State → ℕ → Kind
+kind_answer t s row = checked no (kind_at t s row) (call_checks t s)
 
 -- "a state handed in by value comes back as it was"
 abbrev pub not_taken : State → ℕ → ℕ → Stepped
-not_taken s number place = record { ok = false; answer = kind.Refused number place; state = s }
+not_taken s number place = record { answer = no number place; state = s }
 
 unfoldable pub step_answer : Table → State → ℕ → Stepped
 step_answer t s row = checked (not_taken s) (taken_answer t s row) (call_checks t s)

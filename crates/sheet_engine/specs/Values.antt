@@ -13,9 +13,8 @@ use Rattle.failure.specs.Failure.{links_at}
 use Rattle.verdict.specs.declared.Verdict.{Verdict}
 use Rattle.verdict.specs.declared.Verdict.TheVariants.{Pass, Fail}
 use Rattle.state.specs.declared.State.{State}
-use Rattle.state.specs.declared.StepKind.{StepKind}
 use Rattle.state.specs.declared.StepKind.TheVariants as kind
-use Rattle.moves.specs.Steps.{links_of, kind_at, has_step, stepped_of}
+use Rattle.moves.specs.Steps.{Kind, links_of, kind_at, has_step, stepped_of}
 use Rattle.engine.specs.declared.Stepped.{Stepped}
 use Rattle.sheet_engine.specs.Answers.{call_checks}
 use Rattle.sheet_engine.specs.declared.Stands.{Stands}
@@ -92,16 +91,16 @@ pub record StepValues : Type 0 where
   pub link : ℕ
   pub value : ℕ
 
-abbrev pub step_values : StepKind → StepValues
-step_values (kind.Act a) = record { refusal = 0; place = 0; word = 1; activity = a; link = 0; value = 0 }
-step_values (kind.Set l v) = record { refusal = 0; place = 0; word = 2; activity = 0; link = l; value = v }
-step_values kind.Open = record { refusal = 0; place = 0; word = 3; activity = 0; link = 0; value = 0 }
-step_values kind.Clean = record { refusal = 0; place = 0; word = 4; activity = 0; link = 0; value = 0 }
-step_values (kind.Refused number place) = record { refusal = number; place = place; word = 0; activity = 0; link = 0; value = 0 }
+abbrev pub step_values : Kind → StepValues
+step_values (Ok (kind.Act a)) = record { refusal = 0; place = 0; word = 1; activity = a; link = 0; value = 0 }
+step_values (Ok (kind.Set l v)) = record { refusal = 0; place = 0; word = 2; activity = 0; link = l; value = v }
+step_values (Ok kind.Open) = record { refusal = 0; place = 0; word = 3; activity = 0; link = 0; value = 0 }
+step_values (Ok kind.Clean) = record { refusal = 0; place = 0; word = 4; activity = 0; link = 0; value = 0 }
+step_values (Err e) = record { refusal = e.number; place = e.place; word = 0; activity = 0; link = 0; value = 0 }
 
 -- what a row with a step shows: its bytes, and of a JOIN whether its condition is true
 unfoldable pub shown_by : ℕ → ℕ → ℕ → ℕ → StepValues
-shown_by term a b value = cond (eqb term 1) (step_values (kind.Act a)) (cond (eqb term 2) (step_values (kind.Set a b)) (cond (eqb value 2) (step_values kind.Open) (step_values kind.Clean)))
+shown_by term a b value = cond (eqb term 1) (step_values (Ok (kind.Act a))) (cond (eqb term 2) (step_values (Ok (kind.Set a b))) (cond (eqb value 2) (step_values (Ok kind.Open)) (step_values (Ok kind.Clean))))
 
 abbrev pub shown : Table → State → ℕ → StepValues
 shown t s row = shown_by (get_or t.terms (row * 4) 0) (get_or t.terms (row * 4 + 1) 0) (get_or t.terms (row * 4 + 2) 0) (digit (eval_in t (get_or t.terms (row * 4 + 1) 0) (links_of s)))
@@ -115,7 +114,7 @@ row_checks t s row = call_checks t s ++ (row_check t s row ∷ [])
 
 -- the step of a row, taken
 abbrev pub was_taken : Table → State → ℕ → Stepped
-was_taken t s row = record { ok = true; answer = kind_at t s row; state = stepped_of t s row }
+was_taken t s row = record { answer = kind_at t s row; state = stepped_of t s row }
 
 -- "The first failure is given ... and all else in the answer is 0": the values a of a call that makes the checks, whose number is 0 exactly if all hold
 pub record Answers {A : Type 0} (number : A → ℕ) (refused : ℕ → ℕ → A) (good : A) (cs : List Check) (a : A) : Type 0 where

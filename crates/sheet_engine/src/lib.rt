@@ -177,14 +177,12 @@ pub fn waits_for(s: State, h: Head, ts: &[u8], cs: &[u8], out: &mut [u8]) -> Res
 }
 
 // The step of a row; 11 and the row where it has none.
-pub fn step_kind(s: State, h: Head, ts: &[u8], cs: &[u8], row: usize) -> StepKind
+pub fn step_kind(s: State, h: Head, ts: &[u8], cs: &[u8], row: usize) -> Result<StepKind, Refusal>
     ensures value { result ≡ kind_answer (table_of h ts.now cs.now) s row }
     ensures sized { Sized s }
 {
-    match judge_state(s, h, ts, cs) {
-        Ok(()) => engine::kind(h, ts, cs, s, row),
-        Err(refusal) => StepKind::Refused(refusal.number, refusal.place),
-    }
+    judge_state(s, h, ts, cs)?;
+    engine::kind(h, ts, cs, s, row)
 }
 
 // Taking the step of a row: the kind and the new state; a refusal gives the state back as it was.
@@ -195,21 +193,24 @@ pub fn take_step(s: State, h: Head, ts: &[u8], cs: &[u8], row: usize) -> Stepped
     match judge_state(s, h, ts, cs) {
         Ok(()) => engine::take(h, ts, cs, s, row),
         Err(refusal) => Stepped {
-            ok: false,
-            answer: StepKind::Refused(refusal.number, refusal.place),
+            answer: Err(refusal),
             state: s,
         },
     }
 }
 
-// Taking a step on the caller's own state: the record is stored where a step was taken, else left as it was.
-pub fn step_in_place(state: &mut State, h: Head, ts: &[u8], cs: &[u8], row: usize) -> StepKind
+// Taking a step on the caller's own state: the record is the state after the step, or as it was.
+pub fn step_in_place(
+    state: &mut State,
+    h: Head,
+    ts: &[u8],
+    cs: &[u8],
+    row: usize,
+) -> Result<StepKind, Refusal>
     ensures { (result ≡ (step_answer (table_of h ts.now cs.now) state.old row).answer) × (state.new ≡ (step_answer (table_of h ts.now cs.now) state.old row).state) × Sized state.old }
 {
     let next = take_step(*state, h, ts, cs, row);
-    if next.ok {
-        *state = next.state;
-    }
+    *state = next.state;
     next.answer
 }
 
@@ -236,8 +237,8 @@ pub fn compact(s: State, h: Head, ts: &[u8], cs: &[u8], out: &mut [u8]) -> Compa
                 state: s.restart(),
             }
         }
-        Err(refusal) => Compacted {
-            answer: Err(refusal),
+        Err(refused) => Compacted {
+            answer: Err(refused),
             state: s,
         },
     }

@@ -15,14 +15,13 @@ pub struct State {
     pub unset: u8,
 }
 
-// What a step is, or why there is none: the activity; the link and its value, 0 or 1; a JOIN opened or cleaned away; number and place.
+// What a step is: the activity; the link and its value, 0 or 1; a JOIN opened or cleaned away.
 #[derive(Clone, Copy)]
 pub enum StepKind {
     Act(u8),
     Set(u8, u8),
     Open,
     Clean,
-    Refused(u8, usize),
 }
 
 // A fresh state: every mark waits, every link is unset, and nothing is counted yet.

@@ -1,8 +1,8 @@
-use Rattle.engine.specs.ByValue.{step_from}
 use mathlib.Core.Path.{◌∙◌, ap}
-use Rattle.engine.specs.ByValue.{is_step}
+use Rattle.std.specs.Result.{is_ok}
+use Rattle.engine.specs.ByValue.{step_from}
 use Rattle.engine.proofs.has_step.Goals as goal
 
 pub returns : goal.returns
 unfolding step_from
-returns c = c.is_step.ensures ∙ ap is_step c.kind_from.ensures
+returns c = c.is_ok.ensures.value ∙ ap is_ok c.kind_from.ensures

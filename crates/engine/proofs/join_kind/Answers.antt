@@ -1,4 +1,5 @@
-use mathlib.Core.Path.{◌≡◌}
+use mathlib.Core.Path.{◌≡◌, ap}
+use Rattle.std.specs.Prelude.{Err}
 use mathlib.Core.Bool.{true, false, ◌&&◌}
 use lib.Dec.{eqb}
 use borrow.Author.Tests.{ne_eqb}
@@ -19,4 +20,4 @@ pub returns : goal.returns
 unfolding join_kind
 returns c =
     let test : (eqb c.args.value 1 && c.cleans.result) ≡ false = c.if-value-cleans.false in
-    rw (ne_eqb _ 2 c.if-value-eq2.false, ← c.cleans.ensures, test)
+    rw (ne_eqb _ 2 c.if-value-eq2.false, ← c.cleans.ensures, test) (ap Err c.no_step.ensures)

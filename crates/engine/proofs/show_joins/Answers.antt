@@ -5,13 +5,13 @@ use Rattle.flags.proofs.Shown.{shows_none, shows_more}
 use Rattle.engine.proofs.show_joins.Goals as goal
 
 pub loop-i-init : goal.loop-i-init
-loop-i-init c = (omega arith, shows_none _ _ c.requires.0)
+loop-i-init c = shows_none _ _ c.requires.0
 
 pub join_in_front-requires : goal.join_in_front-requires
 join_in_front-requires c = (omega arith, omega arith)
 
 pub loop-i-preserved : goal.loop-i-preserved
-loop-i-preserved c = let l = c.loop-i in (omega arith, shows_more _ l.i _ l.flags l.invariant.1 (omega arith) (ap bit c.join_in_front.ensures))
+loop-i-preserved c = let l = c.loop-i in shows_more _ l.i _ l.flags l.invariant (omega arith) (ap bit c.join_in_front.ensures)
 
 pub returns : goal.returns
-returns c = let e : c.loop-i.i ≡ c.args.n = omega arith in rw e at c.loop-i.invariant.1
+returns c = let e : c.loop-i.i ≡ c.args.n = omega arith in rw e at c.loop-i.invariant

@@ -4,7 +4,4 @@ use Rattle.engine.specs.ByValue.{join_from}
 use Rattle.engine.proofs.show_joins.Given as goal
 
 abbrev pub invariant-loop-i : goal.invariant-loop-i
-invariant-loop-i l = (l.i ≤ l.n) × Shows (join_from l.ts l.marks l.reached) l.i l.flags
-
-abbrev pub decreases-loop-i : goal.decreases-loop-i
-decreases-loop-i l = l.n - l.i
+invariant-loop-i l = Shows (join_from l.ts l.marks l.reached) l.i l.flags

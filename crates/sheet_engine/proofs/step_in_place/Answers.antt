@@ -1,9 +1,0 @@
-use mathlib.Core.Path.{sym, ◌∙◌, ap}
-use Rattle.engine.specs.declared.Stepped.{Stepped}
-use Rattle.sheet_engine.proofs.Steps.{state_back}
-use Rattle.sheet_engine.proofs.step_in_place.Goals as goal
-
--- where no step was taken, the state after is the state before
-pub returns-else-next : goal.returns-else-next
-returns-else-next c = let e = c.take_step-next.ensures.value in
-    (ap (λ (r : Stepped). r.answer) e, sym (state_back _ _ _ (sym (ap (λ (r : Stepped). r.ok) e) ∙ c.if-next.false)), c.take_step-next.ensures.sized)
