@@ -17,9 +17,7 @@ fn two(s: &[u8], at: usize) -> usize
     requires { (at + 2 ≤ length s.now) × (at < 256) }
     ensures { (result ≡ number_at s.now at) × (result < 65536) }
 {
-    let low = s[at] as usize;
-    let high = s[at + 1] as usize;
-    low + 256 * high
+    u16::from_le_bytes([s[at], s[at + 1]]) as usize
 }
 
 fn entry_ok(s: &[u8], at: usize, kind: u8, start: usize) -> bool
@@ -179,8 +177,9 @@ fn front(h: Head) -> [u8; 18]
     ensures { result ≡ front h }
 {
     let t = 4 * h.n;
-    let c = 4 * h.k;
-    let start = 18 + t;
+    let terms = (t as u16).to_le_bytes();
+    let start = (18 + t as u16).to_le_bytes();
+    let conditions = (4 * h.k as u16).to_le_bytes();
     [
         3,
         1,
@@ -191,13 +190,13 @@ fn front(h: Head) -> [u8; 18]
         2,
         18,
         0,
-        (t % 256) as u8,
-        (t / 256) as u8,
+        terms[0],
+        terms[1],
         3,
-        (start % 256) as u8,
-        (start / 256) as u8,
-        (c % 256) as u8,
-        (c / 256) as u8,
+        start[0],
+        start[1],
+        conditions[0],
+        conditions[1],
         h.evaluation,
         h.m as u8,
     ]

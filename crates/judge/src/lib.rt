@@ -80,7 +80,7 @@ fn child(n: usize, row: usize, x: usize) -> bool
     (row < x) & (x < n)
 }
 
-// 5: a term row, by its kind.
+// 5: a term row, by its kind: a number here and below, since `term_rule`, `links_noted` and `wants_within` ask the bytes before they make a row.
 fn term_row(
     m: usize,
     n: usize,

@@ -1,8 +1,7 @@
-use Prim.Native.Nat.{◌+◌}
 use native.Mathlib.Omega.{arith}
-use mathlib.Core.Path.{refl}
-use Rattle.codec.proofs.Reading.{number_by}
+use Rattle.sheet.specs.Sheet.{number_at}
 use Rattle.codec.proofs.two.Goals as goal
 
 pub returns : goal.returns
-returns c = (number_by _ _ _ _ refl refl, omega (arith, c.type_inv.s (c.args.at + 1), c.type_inv.s c.args.at))
+unfolding number_at
+returns c = (omega (arith, c.from_le_bytes.ensures), c.from_le_bytes.type_inv)
