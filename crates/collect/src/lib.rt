@@ -160,7 +160,7 @@ fn kept_rows(h: Head, ts: &[u8], s: State, out: &mut [u8]) -> usize
     laying::lay(&kept, h.n, row, out)
 }
 
-// The evaluation of the compacted sheet: 2 for strict, 3 for lazy; that of a compacted one stays.
+// The evaluation of the compacted sheet: 2 for strict, 3 for lazy; that of a compacted one stays. It is a number here, since a `Head` has it as the byte of its sheet.
 #[tactic(auto, unfolding(compacted::specs::Compacted::compacted_by))]
 fn compacted_by(evaluation: u8) -> u8
     ensures { result ≡ compacted_by evaluation }

@@ -123,7 +123,7 @@ fn climb(ts: &[u8], n: usize, old: State, row: usize, z: State) -> State
     let mut at = row;
     let mut state = z;
     for p in (0..row).rev() {
-        if rows::names(ts, p, at) {
+        if rows::term::term_row(ts, p).names(at) {
             state = decide_above(ts, n, old, at, p, state);
             at = p;
         }
@@ -163,6 +163,7 @@ pub fn dropped(m: usize, ts: &[u8], n: usize, old: State, row: usize) -> State
     ensures { result ≡ counted_in m ts.now n (dropped_of ts.now n old row) }
 {
     let next = old.drop_join(row as u8);
-    let cleaned = falsify_below(ts, n, &old.marks, rows::first(ts, row) as usize, next);
+    let child = rows::term::term_row(ts, row).first() as usize;
+    let cleaned = falsify_below(ts, n, &old.marks, child, next);
     counts::counted(m, ts, n, cleaned)
 }

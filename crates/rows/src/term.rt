@@ -4,6 +4,7 @@
 
 ghost use Rattle.std.specs.Prelude.{◌≡◌, ◌+◌, ◌*◌, ◌≤◌, length};
 ghost use Rattle.steps.specs.Rows.{first_of, second_of, is_act};
+ghost use Rattle.steps.specs.InFront.{names};
 ghost use Rattle.sheet.specs.Table.{row_by, row_at};
 ghost use Rattle.rows.specs.Term.{row_of};
 
@@ -42,6 +43,14 @@ impl TermRow {
             TermRow::Pick { right, .. } | TermRow::Flow { right, .. } => right,
             _ => 0,
         }
+    }
+
+    // The row names another as a child.
+    #[tactic(auto, using(laws::proofs::Tests::or_is), unfolding(steps::specs::InFront::names))]
+    pub fn names(self, child: usize) -> bool
+        ensures { result ≡ names (row_of self) child }
+    {
+        (self.first() as usize == child) | (self.second() as usize == child)
     }
 
     #[tactic(auto, unfolding(steps::specs::Rows::is_act, steps::specs::Rows::is_act_prefix))]
