@@ -7,9 +7,6 @@ use Rattle.effects.proofs.climb.Goals as goal
 pub loop-p-init : goal.loop-p-init
 loop-p-init c = climb_start _ _ c.requires.0.1.1 _ _ _ c.requires.1
 
-pub term_row-requires : goal.term_row-requires
-term_row-requires c = let l = c.loop-p in let b : l.p ≤ l.at = l.invariant.below in let k : l.at < c.args.n = l.invariant.inside in omega arith
-
 pub decide_above-state-requires : goal.decide_above-state-requires
 decide_above-state-requires c =
     let l = c.loop-p in

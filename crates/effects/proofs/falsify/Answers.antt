@@ -5,9 +5,6 @@ use Rattle.effects.proofs.Climbing.{falsify_hit, falsify_miss, falsify_end}
 use Rattle.effects.proofs.falsify.Goals as goal
 use Rattle.effects.proofs.falsify.Goals.{then-reached, else-reached}
 
-pub loop-l-init : goal.loop-l-init
-loop-l-init c = refl
-
 pub loop-l-preserved : goal.loop-l-preserved
 loop-l-preserved c =
     let l = c.loop-l in

@@ -7,9 +7,6 @@ use Rattle.flags.proofs.count.Goals as goal
 pub loop-i-init : goal.loop-i-init
 loop-i-init c = (omega arith, counted_none _ _)
 
-pub overflow_add-found : goal.overflow_add-found
-overflow_add-found c = let l = c.loop-i in omega (arith, bit_small (flagged c.args.flags.now l.i))
-
 pub loop-i-preserved : goal.loop-i-preserved
 loop-i-preserved c = let l = c.loop-i in (omega (arith, bit_small (flagged c.args.flags.now l.i)), counted_next _ _ l.i l.found c.loop-i-test.true l.invariant.1)
 

@@ -5,8 +5,5 @@ use Rattle.flags.proofs.fill.Goals as goal
 pub returns-then-out-size : goal.returns-then-out-size
 returns-then-out-size c = (c.count-size.ensures, written_short _ _ (omega arith))
 
-pub write-requires : goal.write-requires
-write-requires c = (omega arith, omega arith)
-
 pub returns : goal.returns
 returns c = (c.count-size.ensures, written_fits _ _ _ (omega arith) c.write.ensures)

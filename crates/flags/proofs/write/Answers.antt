@@ -18,8 +18,5 @@ loop-i-preserved c =
       | else-flags-i-eq1 w ↦ rw (w.found-is, w.out-is) (written_miss _ _ l.i l.found c.loop-i-test.true l.out _ l.invariant (ne_eqb _ 1 w.if-flags-i-eq1.false))
     ]
 
-pub shape_of-out : goal.shape_of-out
-shape_of-out c = c.loop-i.invariant.long
-
 pub returns : goal.returns
 returns c = written_end _ _ _ _ _ _ c.loop-i-test.false c.loop-i.invariant

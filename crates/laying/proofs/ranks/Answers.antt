@@ -9,9 +9,6 @@ use Rattle.laying.proofs.ranks.Goals as goal
 pub loop-i-init : goal.loop-i-init
 loop-i-init c = (omega arith, (tells_none _ _ _ refl, sym (count_zero _)))
 
-pub overflow_add-found : goal.overflow_add-found
-overflow_add-found c = omega (arith, bit_small (flagged c.args.flags.now c.loop-i.i))
-
 pub loop-i-preserved : goal.loop-i-preserved
 loop-i-preserved c =
     let l = c.loop-i in
