@@ -1,4 +1,4 @@
-use mathlib.Core.Path.{refl, sym, ◌∙◌}
+use mathlib.Core.Path.{sym, ◌∙◌}
 use native.Mathlib.Omega.{arith}
 use Rattle.reach.specs.Masks.{has_bit}
 use Rattle.effects.proofs.Climbing.{falsify_hit, falsify_miss, falsify_end}
