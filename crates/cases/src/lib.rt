@@ -5,8 +5,7 @@
 
 ghost use Rattle.std.specs.Prelude.{◌≤◌};
 
-use codec::SizeAnswer;
-use sheet::Head;
+use sheet::{Head, Refusal};
 use state::{State, StepKind};
 use std::io::Read;
 
@@ -177,10 +176,10 @@ impl<R: Read> Cases<R> {
     }
 
     // The answer of a call that fills a lent buffer, with the buffer as the call left it.
-    pub fn size_agrees(&mut self, answer: SizeAnswer, out: &[u8]) -> Option<bool> {
+    pub fn size_agrees(&mut self, answer: Result<usize, Refusal>, out: &[u8]) -> Option<bool> {
         let expected = self.size()?;
         let same = self.buffer_agrees(out)?;
-        Some((told_size(answer) == expected) & same)
+        Some((told(answer) == expected) & same)
     }
 }
 
@@ -195,20 +194,27 @@ pub fn lend(out: &mut [u8], room: usize) -> &mut [u8] {
     &mut out[..room]
 }
 
-// What a step is, or why there is none: the words are 1 act, 2 set, 3 open, 4 clean.
-pub fn told_kind(kind: StepKind) -> Result<Said, Refused> {
-    let (word, x, y) = match kind {
+// An answer, its refusal by number and place.
+pub fn told<T>(answer: Result<T, Refusal>) -> Result<T, Refused> {
+    match answer {
+        Ok(value) => Ok(value),
+        Err(refusal) => Err((refusal.number, refusal.place)),
+    }
+}
+
+// What a step is: the words are 1 act, 2 set, 3 open, 4 clean.
+pub fn step_said(step: StepKind) -> Said {
+    let (word, x, y) = match step {
         StepKind::Act(activity) => (1, activity, 0),
         StepKind::Set(link, value) => (2, link, value),
         StepKind::Open => (3, 0, 0),
         StepKind::Clean => (4, 0, 0),
-        StepKind::Refused(number, place) => return Err((number, place)),
     };
-    Ok(Said {
+    Said {
         word,
         x: x as usize,
         y: y as usize,
-    })
+    }
 }
 
 pub fn same_state(a: State, b: State) -> bool {
@@ -217,11 +223,4 @@ pub fn same_state(a: State, b: State) -> bool {
         & (a.unset == b.unset)
         & (a.marks == b.marks)
         & (a.links == b.links)
-}
-
-pub fn told_size(answer: SizeAnswer) -> Result<usize, Refused> {
-    match answer {
-        SizeAnswer::Size(size) => Ok(size),
-        SizeAnswer::Refused(number, place) => Err((number, place)),
-    }
 }

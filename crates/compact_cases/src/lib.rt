@@ -2,21 +2,20 @@
 
 #![tactic(auto)]
 
-use cases::{Cases, Table, first, same_state, told_size};
-use codec::SheetAnswer;
+use cases::{Cases, Table, first, same_state, told};
 use state::State;
 use std::io::Read;
 
 // A sheet and a state, compacted, come out as they went in.
 fn made_again(sheet: &[u8], s: State) -> bool {
-    let SheetAnswer::Sheet(h) = sheet_engine::read_sheet(sheet) else {
+    let Ok(h) = sheet_engine::read_sheet(sheet) else {
         return false;
     };
     let terms = sheet_engine::terms_part(sheet);
     let conditions = sheet_engine::conditions_part(sheet);
     let mut buffer = [cases::BLANK; cases::SPACE];
     let again = sheet_engine::compact(s, h, terms, conditions, &mut buffer);
-    match told_size(again.answer) {
+    match again.answer {
         Ok(size) => (first(&buffer, size) == sheet) & same_state(again.state, s),
         Err(_) => false,
     }
@@ -26,7 +25,7 @@ fn compact_agrees(case: &mut Cases<impl Read>, s: State, t: Table, room: usize) 
     let mut buffer = [cases::BLANK; cases::SPACE];
     let out = cases::lend(&mut buffer, room);
     let made = sheet_engine::compact(s, t.head, t.terms, t.conditions, out);
-    let answer = told_size(made.answer);
+    let answer = told(made.answer);
     let expected = case.size()?;
     let same = case.buffer_agrees(out)?;
     let after = if expected.is_ok() { case.state()? } else { s };

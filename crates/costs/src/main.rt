@@ -3,282 +3,187 @@
 
 #![tactic(auto)]
 
-use codec::{SheetAnswer, SizeAnswer};
-use sheet::Head;
-use sheet_engine::{StandingAnswer, VerdictAnswer};
+use sheet::{Head, Refusal};
+use sheet_engine::Stands;
 use state::{State, StepKind};
 use std::io;
+use verdict::Verdict;
 
+// What is printed of an answer.
+type Seen = [usize; 3];
+
+// The call's letter, whether it is made, the mode, and the row that is asked for, which is also the place that is shown of a buffer or a state.
 #[derive(Clone, Copy)]
-struct Seen {
-    a: usize,
-    b: usize,
-    c: usize,
+struct Asked {
+    call: u8,
+    made: bool,
+    mode: u8,
+    row: u8,
 }
 
-fn wide(x: u8) -> usize {
-    x as usize
+// The parts of a table.
+#[derive(Clone, Copy)]
+struct Table<'a> {
+    head: Head,
+    terms: &'a [u8],
+    conditions: &'a [u8],
 }
 
-fn refused_seen(number: u8, place: usize) -> Seen {
-    Seen {
-        a: wide(number),
-        b: place,
-        c: 0,
-    }
+fn refused_seen(refusal: Refusal) -> Seen {
+    [refusal.number as usize, refusal.place, 0]
 }
 
 // The links, rows and conditions of a sheet.
-fn sheet_seen(answer: SheetAnswer) -> Seen {
+fn sheet_seen(answer: Result<Head, Refusal>) -> Seen {
     match answer {
-        SheetAnswer::Sheet(h) => Seen {
-            a: h.m,
-            b: h.n,
-            c: h.k,
-        },
-        SheetAnswer::Refused(number, place) => refused_seen(number, place),
+        Ok(h) => [h.m, h.n, h.k],
+        Err(refusal) => refused_seen(refusal),
     }
 }
 
 // Number and place; 0 for a table that is accepted.
-fn judged_seen(h: Head, ts: &[u8], cs: &[u8]) -> Seen {
-    let r = sheet_engine::judge_table(h, ts, cs);
-    refused_seen(r.number, r.place)
+fn judged_seen(answer: Result<(), Refusal>) -> Seen {
+    match answer {
+        Ok(()) => [0; 3],
+        Err(refusal) => refused_seen(refusal),
+    }
 }
 
 // Row, number and link of a failure; 0 for pass.
-fn verdict_seen(answer: VerdictAnswer) -> Seen {
+fn verdict_seen(answer: Result<Verdict, Refusal>) -> Seen {
     match answer {
-        VerdictAnswer::Pass => Seen { a: 0, b: 0, c: 0 },
-        VerdictAnswer::Fail { row, number, link } => Seen {
-            a: row,
-            b: number,
-            c: link,
-        },
-        VerdictAnswer::Refused(number, place) => refused_seen(number, place),
+        Ok(Verdict::Pass) => [0; 3],
+        Ok(Verdict::Fail { row, number, link }) => [row, number, link],
+        Err(refusal) => refused_seen(refusal),
     }
 }
 
 // The size of a sheet or a list, and its byte at a place.
-fn size_seen(answer: SizeAnswer, out: &[u8; 2066], at: u8) -> Seen {
+fn size_seen(answer: Result<usize, Refusal>, out: &[u8; 2066], at: u8) -> Seen {
     match answer {
-        SizeAnswer::Size(size) => Seen {
-            a: size,
-            b: wide(out[at as usize]),
-            c: 0,
-        },
-        SizeAnswer::Refused(number, place) => refused_seen(number, place),
+        Ok(size) => [size, out[at as usize] as usize, 0],
+        Err(refusal) => refused_seen(refusal),
     }
 }
 
 // 1 act, 2 set, 3 open, 4 clean, with their values.
-fn kind_seen(kind: StepKind) -> Seen {
-    match kind {
-        StepKind::Act(a) => Seen {
-            a: 1,
-            b: a as usize,
-            c: 0,
-        },
-        StepKind::Set(l, v) => Seen {
-            a: 2,
-            b: l as usize,
-            c: v as usize,
-        },
-        StepKind::Open => Seen { a: 3, b: 0, c: 0 },
-        StepKind::Clean => Seen { a: 4, b: 0, c: 0 },
-        StepKind::Refused(number, place) => refused_seen(number, place),
+fn kind_seen(answer: Result<StepKind, Refusal>) -> Seen {
+    match answer {
+        Ok(StepKind::Act(a)) => [1, a as usize, 0],
+        Ok(StepKind::Set(l, v)) => [2, l as usize, v as usize],
+        Ok(StepKind::Open) => [3, 0, 0],
+        Ok(StepKind::Clean) => [4, 0, 0],
+        Err(refusal) => refused_seen(refusal),
     }
 }
 
 // The mode, the mark of a row and the value of a link.
-fn state_seen(s: State, at: u8) -> Seen {
-    let mode = s.mode as usize;
-    let mark = s.marks[at as usize] as usize;
-    if at < 64 {
-        return Seen {
-            a: mode,
-            b: mark,
-            c: s.links[at as usize] as usize,
-        };
-    }
-    Seen {
-        a: mode,
-        b: mark,
-        c: 0,
-    }
+fn state_seen(s: &State, at: u8) -> Seen {
+    let link = if at < 64 { s.links[at as usize] } else { 0 };
+    [
+        s.mode as usize,
+        s.marks[at as usize] as usize,
+        link as usize,
+    ]
 }
 
 // ... and in the place of the mode the two counts, so that the compiler leaves out neither.
-fn after_seen(s: State, at: u8) -> Seen {
-    let seen = state_seen(s, at);
-    Seen {
-        a: s.acts as usize + 256 * (s.unset as usize),
-        b: seen.b,
-        c: seen.c,
-    }
-}
-
-fn count_seen(count: u8) -> Seen {
-    Seen {
-        a: count as usize,
-        b: 0,
-        c: 0,
-    }
-}
-
-fn written_seen(h: Head, ts: &[u8], cs: &[u8], at: u8, out: &mut [u8; 2066]) -> Seen {
-    let answer = sheet_engine::write_sheet(h, ts, cs, out);
-    size_seen(answer, out, at)
-}
-
-fn list_seen(s: State, h: Head, ts: &[u8], cs: &[u8], at: u8, out: &mut [u8; 2066]) -> Seen {
-    let answer = sheet_engine::list_steps(s, h, ts, cs, out);
-    size_seen(answer, out, at)
-}
-
-fn waits_seen(s: State, h: Head, ts: &[u8], cs: &[u8], at: u8, out: &mut [u8; 2066]) -> Seen {
-    let answer = sheet_engine::waits_for(s, h, ts, cs, out);
-    size_seen(answer, out, at)
+fn after_seen(s: &State, at: u8) -> Seen {
+    let [_, mark, link] = state_seen(s, at);
+    [s.acts as usize + 256 * (s.unset as usize), mark, link]
 }
 
 // 0 where steps are listed, 1 finished, 2 waiting, with the number of rows and the row at a place.
-fn standing_seen(s: State, h: Head, ts: &[u8], cs: &[u8], at: u8, out: &mut [u8; 2066]) -> Seen {
-    let answer = sheet_engine::standing(s, h, ts, cs, out);
+fn standing_seen(answer: Result<Stands, Refusal>, out: &[u8; 2066], at: u8) -> Seen {
     match answer {
-        StandingAnswer::Enabled => Seen { a: 0, b: 0, c: 0 },
-        StandingAnswer::Finished => Seen { a: 1, b: 0, c: 0 },
-        StandingAnswer::Waiting(rows) => Seen {
-            a: 2,
-            b: rows,
-            c: wide(out[at as usize]),
-        },
-        StandingAnswer::Refused(number, place) => refused_seen(number, place),
+        Ok(Stands::Enabled) => [0; 3],
+        Ok(Stands::Finished) => [1, 0, 0],
+        Ok(Stands::Waiting(rows)) => [2, rows, out[at as usize] as usize],
+        Err(refusal) => refused_seen(refusal),
+    }
+}
+
+// The state of a start; that of zeros where it is refused.
+fn started(mode: u8, t: Table) -> State {
+    match sheet_engine::start(t.head, t.terms, t.conditions, mode) {
+        Ok(state) => state,
+        Err(_) => state::fresh(0),
     }
 }
 
 // The size of the compacted sheet, its byte at a place, and what `after_seen` shows of the state there, in one number.
-fn compact_seen(s: State, h: Head, ts: &[u8], cs: &[u8], at: u8, out: &mut [u8; 2066]) -> Seen {
-    let made = sheet_engine::compact(s, h, ts, cs, out);
-    let answer = made.answer;
-    let sheet = size_seen(answer, out, at);
-    let state = after_seen(made.state, at);
-    Seen {
-        a: sheet.a,
-        b: sheet.b,
-        c: state.a ^ state.b ^ state.c,
-    }
+fn compact_seen(s: State, t: Table, at: u8, out: &mut [u8; 2066]) -> Seen {
+    let made = sheet_engine::compact(s, t.head, t.terms, t.conditions, out);
+    let [size, byte, _] = size_seen(made.answer, out, at);
+    let [counts, mark, link] = after_seen(&made.state, at);
+    [size, byte, counts ^ mark ^ link]
 }
 
-fn called(
-    call: u8,
-    s: State,
-    h: Head,
-    ts: &[u8],
-    cs: &[u8],
-    mode: u8,
-    row: u8,
-    out: &mut [u8; 2066],
-) -> Seen {
-    match call {
-        b'j' => judged_seen(h, ts, cs),
-        b'w' => written_seen(h, ts, cs, row, out),
+// A letter is the input's own, and matched here alone.
+fn called(asked: Asked, s: State, t: Table, out: &mut [u8; 2066]) -> Seen {
+    let h = t.head;
+    let ts = t.terms;
+    let cs = t.conditions;
+    let at = asked.row;
+    let row = at as usize;
+    match asked.call {
+        b'j' => judged_seen(sheet_engine::judge_table(h, ts, cs)),
+        b'w' => size_seen(sheet_engine::write_sheet(h, ts, cs, out), out, at),
         b'v' => verdict_seen(sheet_engine::give_verdict(h, ts, cs)),
-        b's' => {
-            let started = sheet_engine::start(h, ts, cs, mode);
-            after_seen(started.state, row)
-        }
-        b'q' => count_seen(sheet_engine::acts_left(s)),
-        b'u' => count_seen(sheet_engine::links_unset(s)),
-        b'l' => list_seen(s, h, ts, cs, row, out),
-        b'h' => standing_seen(s, h, ts, cs, row, out),
-        b'a' => waits_seen(s, h, ts, cs, row, out),
-        b'k' => kind_seen(sheet_engine::step_kind(s, h, ts, cs, row as usize)),
-        b'c' => compact_seen(s, h, ts, cs, row, out),
-        b'i' => {
-            let placed = lent::step_lent(s, h, ts, cs, row as usize);
-            after_seen(placed.state, row)
-        }
-        _ => {
-            let next = sheet_engine::take_step(s, h, ts, cs, row as usize);
-            after_seen(next.state, row)
-        }
+        b's' => after_seen(&started(asked.mode, t), at),
+        b'q' => [sheet_engine::acts_left(s) as usize, 0, 0],
+        b'u' => [sheet_engine::links_unset(s) as usize, 0, 0],
+        b'l' => size_seen(sheet_engine::list_steps(s, h, ts, cs, out), out, at),
+        b'h' => standing_seen(sheet_engine::standing(s, h, ts, cs, out), out, at),
+        b'a' => size_seen(sheet_engine::waits_for(s, h, ts, cs, out), out, at),
+        b'k' => kind_seen(sheet_engine::step_kind(s, h, ts, cs, row)),
+        b'c' => compact_seen(s, t, at, out),
+        b'i' => after_seen(&lent::step_lent(s, h, ts, cs, row).state, at),
+        _ => after_seen(&sheet_engine::take_step(s, h, ts, cs, row).state, at),
     }
 }
 
 // The state after steps; one that is refused changes nothing.
-fn after(s: State, h: Head, ts: &[u8], cs: &[u8], rows: &[u8]) -> State {
+fn after(s: State, t: Table, rows: &[u8]) -> State {
     let mut state = s;
     for row in rows {
-        let next = sheet_engine::take_step(state, h, ts, cs, wide(*row));
-        state = next.state;
+        state = sheet_engine::take_step(state, t.head, t.terms, t.conditions, *row as usize).state;
     }
     state
 }
 
 // The state is made and the buffer cleared in both runs, so that neither is counted with the call.
-fn answer(
-    call: u8,
-    made: bool,
-    mode: u8,
-    row: u8,
-    rows: &[u8],
-    h: Head,
-    ts: &[u8],
-    cs: &[u8],
-) -> Seen {
-    let started = sheet_engine::start(h, ts, cs, mode);
-    let s = after(started.state, h, ts, cs, rows);
+fn answer(asked: Asked, rows: &[u8], t: Table) -> Seen {
+    let s = after(started(asked.mode, t), t, rows);
     let mut out = [0; 2066];
-    if made {
-        return called(call, s, h, ts, cs, mode, row, &mut out);
+    if asked.made {
+        return called(asked, s, t, &mut out);
     }
-    state_seen(s, row)
+    state_seen(&s, asked.row)
 }
 
-// Reading alone, or a part: any other call reads the sheet before.
-fn read(call: u8, made: bool, s: &[u8]) -> Seen {
-    if !made {
-        return Seen {
-            a: s.len(),
-            b: 0,
-            c: 0,
+// Reading alone, or a part; any other call reads the sheet before.
+fn run(asked: Asked, rows: &[u8], sheet: &[u8]) -> Seen {
+    if (asked.call == b'r') | (asked.call == b'p') {
+        return match (asked.made, asked.call) {
+            (false, _) => [sheet.len(), 0, 0],
+            (true, b'p') => [sheet_engine::terms_part(sheet).len(), 0, 0],
+            _ => sheet_seen(sheet_engine::read_sheet(sheet)),
         };
     }
-    if call == b'p' {
-        return Seen {
-            a: sheet_engine::terms_part(s).len(),
-            b: 0,
-            c: 0,
-        };
+    match sheet_engine::read_sheet(sheet) {
+        Ok(head) => {
+            let terms = sheet_engine::terms_part(sheet);
+            let conditions = sheet_engine::conditions_part(sheet);
+            let t = Table {
+                head,
+                terms,
+                conditions,
+            };
+            answer(asked, rows, t)
+        }
+        Err(refusal) => refused_seen(refusal),
     }
-    sheet_seen(sheet_engine::read_sheet(s))
-}
-
-fn run(call: u8, made: bool, mode: u8, row: u8, rows: &[u8], s: &[u8]) -> Seen {
-    if (call == b'r') | (call == b'p') {
-        return read(call, made, s);
-    }
-    match sheet_engine::read_sheet(s) {
-        SheetAnswer::Sheet(h) => answer(
-            call,
-            made,
-            mode,
-            row,
-            rows,
-            h,
-            sheet_engine::terms_part(s),
-            sheet_engine::conditions_part(s),
-        ),
-        SheetAnswer::Refused(number, place) => refused_seen(number, place),
-    }
-}
-
-fn split(call: u8, made: bool, mode: u8, row: u8, first: u8, s: &[u8]) -> Seen {
-    let count = wide(first);
-    if s.len() <= count {
-        return Seen { a: 1, b: 0, c: 0 };
-    }
-    run(call, made, mode, row, &s[..count], &s[count..])
 }
 
 // In hex, digit by digit: with options, each digit that is no zero in front would cost more.
@@ -294,19 +199,26 @@ fn print(rt: &impl Print, x: usize, end: &str) -> io::Result<()> {
 
 fn main(rt: HostRuntime) -> io::Result<()> {
     let mut buffer = [0; 4096];
-    let n = cases::read_full(&mut rt.stdin(), &mut buffer);
-    if n < 5 {
+    let Ok(input) = filling::fill(&mut rt.stdin(), &mut buffer) else {
+        return Ok(());
+    };
+    if input.len() < 5 {
         return Ok(());
     }
-    let seen = split(
-        buffer[0],
-        buffer[1] == b'1',
-        buffer[2],
-        buffer[3],
-        buffer[4],
-        &buffer[5..n],
-    );
-    print(&rt, seen.a, " ")?;
-    print(&rt, seen.b, " ")?;
-    print(&rt, seen.c, "\n")
+    let asked = Asked {
+        call: input[0],
+        made: input[1] == b'1',
+        mode: input[2],
+        row: input[3],
+    };
+    let count = input[4] as usize;
+    let rest = &input[5..];
+    let seen = if rest.len() <= count {
+        [1, 0, 0]
+    } else {
+        run(asked, &rest[..count], &rest[count..])
+    };
+    print(&rt, seen[0], " ")?;
+    print(&rt, seen[1], " ")?;
+    print(&rt, seen[2], "\n")
 }

@@ -2,7 +2,7 @@
 
 #![tactic(auto)]
 
-use cases::{Cases, Refused, Table, told_kind};
+use cases::{Cases, Refused, Table, told};
 use state::State;
 use std::io::Read;
 
@@ -21,7 +21,7 @@ fn run(fresh: State, t: Table, rows: &[u8], counts: &[u8]) -> (Result<(), Refuse
     let mut agree = pairs.next().is_some_and(|pair| counts_agree(s, pair));
     for row in rows {
         let next = sheet_engine::take_step(s, t.head, t.terms, t.conditions, *row as usize);
-        if let Err(refused) = told_kind(next.answer) {
+        if let Err(refused) = told(next.answer) {
             return (Err(refused), agree & pairs.next().is_none());
         }
         s = next.state;
@@ -32,11 +32,10 @@ fn run(fresh: State, t: Table, rows: &[u8], counts: &[u8]) -> (Result<(), Refuse
 
 // The run from the start, which may be refused.
 fn started(mode: u8, t: Table, rows: &[u8], counts: &[u8]) -> (Result<(), Refused>, bool) {
-    let begun = sheet_engine::start(t.head, t.terms, t.conditions, mode);
-    if begun.number != 0 {
-        return (Err((begun.number, begun.place)), counts.is_empty());
+    match told(sheet_engine::start(t.head, t.terms, t.conditions, mode)) {
+        Ok(fresh) => run(fresh, t, rows, counts),
+        Err(refused) => (Err(refused), counts.is_empty()),
     }
-    run(begun.state, t, rows, counts)
 }
 
 // A run: its rows and its table; as output number and place, which take 5 bytes, then two counts for each state. A number that is no byte is no mode, as is 255.

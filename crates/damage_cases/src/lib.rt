@@ -2,42 +2,38 @@
 
 #![tactic(auto)]
 
-use cases::{Cases, Table, first, told_size};
-use codec::SheetAnswer;
+use cases::{Cases, Table, first};
 use state::{State, StepKind};
 use std::io::Read;
 
 // The row with the lowest step.
 fn lowest(s: State, t: Table) -> Option<u8> {
     let mut rows = [0; 256];
-    let answer = sheet_engine::list_steps(s, t.head, t.terms, t.conditions, &mut rows);
-    match told_size(answer) {
+    match sheet_engine::list_steps(s, t.head, t.terms, t.conditions, &mut rows) {
         Ok(0) | Err(_) => None,
         Ok(_) => Some(rows[0]),
     }
 }
 
-// What is done from a start in a mode, by no more steps than a sheet has rows: the activities, as the digits of a number.
-fn done(mode: u8, t: Table) -> usize {
-    let mut s = sheet_engine::start(t.head, t.terms, t.conditions, mode).state;
+// What is done from a start in a mode, by no more steps than a sheet has rows: the activities, as the digits of a number; nothing where a call is refused.
+fn done(mode: u8, t: Table) -> Option<usize> {
+    let mut s = sheet_engine::start(t.head, t.terms, t.conditions, mode).ok()?;
     let mut done = 0;
     for _ in 0..256 {
         let Some(row) = lowest(s, t) else {
-            return done;
+            return Some(done);
         };
         let next = sheet_engine::take_step(s, t.head, t.terms, t.conditions, row as usize);
-        match next.answer {
-            StepKind::Act(activity) => done = (done % 100) * 10 + activity as usize,
-            StepKind::Refused(_, _) => done = 0,
-            _ => {}
+        if let StepKind::Act(activity) = next.answer.ok()? {
+            done = (done % 100) * 10 + activity as usize;
         }
         s = next.state;
     }
-    done
+    Some(done)
 }
 
 fn shows(sheet: &[u8]) -> bool {
-    let SheetAnswer::Sheet(head) = sheet_engine::read_sheet(sheet) else {
+    let Ok(head) = sheet_engine::read_sheet(sheet) else {
         return false;
     };
     let t = Table {
@@ -45,7 +41,7 @@ fn shows(sheet: &[u8]) -> bool {
         terms: sheet_engine::terms_part(sheet),
         conditions: sheet_engine::conditions_part(sheet),
     };
-    (done(1, t) == 12) & (done(0, t) == 1)
+    (done(1, t) == Some(12)) & (done(0, t) == Some(1))
 }
 
 fn damage_agrees(case: &mut Cases<impl Read>, t: Table, row: usize, room: usize) -> Option<bool> {
@@ -53,7 +49,7 @@ fn damage_agrees(case: &mut Cases<impl Read>, t: Table, row: usize, room: usize)
     let out = cases::lend(&mut buffer, room);
     let answer = sheet_engine::damage_sheet(t.head, t.terms, t.conditions, row, out);
     let same = case.size_agrees(answer, out)?;
-    Some(same & told_size(answer).map_or(true, |size| shows(first(out, size))))
+    Some(same & answer.map_or(true, |size| shows(first(out, size))))
 }
 
 // The rest of a case, whose input begins here.

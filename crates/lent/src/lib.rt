@@ -6,21 +6,15 @@ ghost use Rattle.std.specs.Prelude.{◌≡◌};
 ghost use Rattle.sheet.specs.Table.{table_of};
 ghost use Rattle.sheet_engine.specs.Answers.{step_answer};
 
+use engine::Stepped;
 use sheet::Head;
-use state::{State, StepKind};
-
-// What the call answered, and what it left in the caller's record.
-#[derive(Clone, Copy)]
-pub struct Placed {
-    pub answer: StepKind,
-    pub state: State,
-}
+use state::State;
 
 // One step on a record that the function owns and lends: the answer and the record are those of `take_step`.
-pub fn step_lent(s: State, h: Head, ts: &[u8], cs: &[u8], row: usize) -> Placed
+pub fn step_lent(s: State, h: Head, ts: &[u8], cs: &[u8], row: usize) -> Stepped
     ensures { (result.answer ≡ (step_answer (table_of h ts.now cs.now) s row).answer) × (result.state ≡ (step_answer (table_of h ts.now cs.now) s row).state) }
 {
     let mut own = s;
     let answer = sheet_engine::step_in_place(&mut own, h, ts, cs, row);
-    Placed { answer, state: own }
+    Stepped { answer, state: own }
 }

@@ -1,4 +1,5 @@
 -- How long each line is at most, by how many digits its numbers have. Assumes nothing.
+use Rattle.std.specs.Prelude.{Ok, Err}
 use mathlib.Core.Path.{◌≡◌, refl, ap}
 use mathlib.Core.Bool.{Bool, true, false, cond}
 use mathlib.Core.List.{List, [], ◌∷◌, ◌++◌, Memᴰ}
@@ -6,11 +7,11 @@ use Prim.Native.Nat.{ℕ, suc, ◌+◌, ◌*◌, ◌^◌, ◌≤◌, ◌<◌}
 use native.Mathlib.Omega.{arith}
 use lib.Dec.{eqb}
 use lib.ListN.{length, length-append, length-take, take}
-use Rattle.state.specs.declared.StepKind.{StepKind}
+use Rattle.moves.specs.Steps.{Kind}
 use Rattle.state.specs.declared.StepKind.TheVariants as kind
-use Rattle.sheet_engine.specs.declared.VerdictAnswer.TheVariants as verdict
-use Rattle.sheet_engine.specs.declared.StandingAnswer.{StandingAnswer}
-use Rattle.sheet_engine.specs.declared.StandingAnswer.TheVariants as standing
+use Rattle.verdict.specs.declared.Verdict.TheVariants as verdict
+use Rattle.sheet_engine.specs.declared.Stands.{Stands}
+use Rattle.sheet_engine.specs.declared.Stands.TheVariants as standing
 use Rattle.lines.specs.Lines.{field, fields, feed, refused_word, refused_line, pass_words, fail_words, verdict_line, step_word, act_word, set_word, open_word, clean_word, named_line, step_line, letters, links_word, links_line, enabled_word, waiting_word, finished_word, rows_line, finished_line, wait_field, wait_fields, waiting_line, last_line}
 use Rattle.lines.proofs.Decimal.{decimal_short, decimal_digits}
 
@@ -50,33 +51,33 @@ pub refused_short : (n p : ℕ) → Short (refused_line n p) 50
 unfolding refused_line
 refused_short n p = joined 7 43 (said refused_word) (joined 21 22 (field_any n) (joined 21 1 (field_any p) (said feed)))
 
-pub pass_short : Short (verdict_line verdict.Pass) 13
+pub pass_short : Short (verdict_line (Ok verdict.Pass)) 13
 unfolding verdict_line
 pass_short = said (pass_words ++ feed)
 
-pub fail_short : (row number link : ℕ) → row < 1000 → number < 10000 → link < 100 → Short (verdict_line (verdict.Fail row number link)) 25
+pub fail_short : (row number link : ℕ) → row < 1000 → number < 10000 → link < 100 → Short (verdict_line (Ok (verdict.Fail row number link))) 25
 unfolding verdict_line
 fail_short row number link r n l = joined 12 13 (said fail_words) (joined 4 9 (field_short 2 row r) (joined 5 4 (field_short 3 number n) (joined 3 1 (field_short 1 link l) (said feed))))
 
 -- a step: three digits of an activity, two of a link, and one of the value that it is set to
-unfoldable pub Few : StepKind → Type 0
-Few (kind.Act a) = a < 1000
-Few (kind.Set l v) = (l < 100) × (v < 10)
-Few kind.Open = Unit {0}
-Few kind.Clean = Unit {0}
-Few (kind.Refused n p) = ⊥
+unfoldable pub Few : Kind → Type 0
+Few (Ok (kind.Act a)) = a < 1000
+Few (Ok (kind.Set l v)) = (l < 100) × (v < 10)
+Few (Ok kind.Open) = Unit {0}
+Few (Ok kind.Clean) = Unit {0}
+Few (Err e) = ⊥
 
 named_short : (row : ℕ) (word xs : List ℕ) (a b : ℕ) → row < 1000 → Short word a → Short (fields xs) b → Short (named_line row word xs) (4 + (4 + (a + (b + 1))))
 unfolding named_line
 named_short row word xs a b r g h = joined 4 (4 + (a + (b + 1))) (said step_word) (joined 4 (a + (b + 1)) (field_short 2 row r) (joined a (b + 1) g (joined b 1 h (said feed))))
 
-pub step_short : (row : ℕ) (k : StepKind) → row < 1000 → Few k → Short (step_line row k) 18
+pub step_short : (row : ℕ) (k : Kind) → row < 1000 → Few k → Short (step_line row k) 18
 unfolding step_line Few fields
-step_short row (kind.Act a) r h = within 17 18 (omega arith) (named_short row act_word (a ∷ []) 4 4 r (said act_word) (joined 4 0 (field_short 2 a h) (said [])))
-step_short row (kind.Set l v) r h = named_short row set_word (l ∷ (v ∷ [])) 4 5 r (said set_word) (joined 3 2 (field_short 1 l h.0) (joined 2 0 (field_short 0 v h.1) (said [])))
-step_short row kind.Open r h = within 14 18 (omega arith) (named_short row open_word [] 5 0 r (said open_word) (said []))
-step_short row kind.Clean r h = within 15 18 (omega arith) (named_short row clean_word [] 6 0 r (said clean_word) (said []))
-step_short row (kind.Refused n p) r h = absurd h
+step_short row (Ok (kind.Act a)) r h = within 17 18 (omega arith) (named_short row act_word (a ∷ []) 4 4 r (said act_word) (joined 4 0 (field_short 2 a h) (said [])))
+step_short row (Ok (kind.Set l v)) r h = named_short row set_word (l ∷ (v ∷ [])) 4 5 r (said set_word) (joined 3 2 (field_short 1 l h.0) (joined 2 0 (field_short 0 v h.1) (said [])))
+step_short row (Ok kind.Open) r h = within 14 18 (omega arith) (named_short row open_word [] 5 0 r (said open_word) (said []))
+step_short row (Ok kind.Clean) r h = within 15 18 (omega arith) (named_short row clean_word [] 6 0 r (said clean_word) (said []))
+step_short row (Err e) r h = absurd h
 
 letters_length : (xs : List ℕ) → length (letters xs) ≡ length xs
 unfolding letters
@@ -121,9 +122,8 @@ waiting_short : (rows links : List ℕ) → FewRows rows → Small links → Sho
 unfolding waiting_line
 waiting_short rows links h k = joined 7 2049 (said waiting_word) (joined 2048 1 (within (8 * length rows) 2048 (omega (arith, h.few)) (wait_fields_short rows links h.small k)) (said feed))
 
-pub last_short : (a : StandingAnswer) (steps waiting links : List ℕ) → FewRows steps → FewRows waiting → Small links → Short (last_line a steps waiting links) 2056
+pub last_short : (a : Stands) (steps waiting links : List ℕ) → FewRows steps → FewRows waiting → Small links → Short (last_line a steps waiting links) 2056
 unfolding last_line finished_line
 last_short standing.Enabled steps waiting links s w l = within 1032 2056 (omega arith) (rows_short enabled_word steps (said enabled_word) s)
 last_short standing.Finished steps waiting links s w l = within 9 2056 (omega arith) (said (finished_word ++ feed))
 last_short (standing.Waiting count) steps waiting links s w l = waiting_short waiting links w l
-last_short (standing.Refused number place) steps waiting links s w l = within 50 2056 (omega arith) (refused_short number place)

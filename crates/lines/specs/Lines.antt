@@ -1,12 +1,13 @@
 -- Document 01, "The program": the lines, as bytes.
-use Rattle.std.specs.Prelude.{cond, List, [], ◌∷◌, ◌++◌, ℕ, zero, suc, ◌+◌, ◌/◌, ◌%◌, eqb, ltb, take}
+use Rattle.std.specs.Prelude.{Result, Ok, Err, cond, List, [], ◌∷◌, ◌++◌, ℕ, zero, suc, ◌+◌, ◌/◌, ◌%◌, eqb, ltb, take}
 use Rattle.worth.specs.Worth.{no_link}
-use Rattle.state.specs.declared.StepKind.{StepKind}
+use Rattle.moves.specs.Steps.{Kind}
 use Rattle.state.specs.declared.StepKind.TheVariants as kind
-use Rattle.sheet_engine.specs.declared.VerdictAnswer.{VerdictAnswer}
-use Rattle.sheet_engine.specs.declared.VerdictAnswer.TheVariants as verdict
-use Rattle.sheet_engine.specs.declared.StandingAnswer.{StandingAnswer}
-use Rattle.sheet_engine.specs.declared.StandingAnswer.TheVariants as standing
+use Rattle.sheet.specs.declared.Refusal.{Refusal}
+use Rattle.verdict.specs.declared.Verdict.{Verdict}
+use Rattle.verdict.specs.declared.Verdict.TheVariants as verdict
+use Rattle.sheet_engine.specs.declared.Stands.{Stands}
+use Rattle.sheet_engine.specs.declared.Stands.TheVariants as standing
 
 -- "Fields and row numbers are decimal": twenty digits hold every number of 64 bits
 abbrev pub glyph : ℕ → ℕ
@@ -44,10 +45,10 @@ pass_words = 118 ∷ (101 ∷ (114 ∷ (100 ∷ (105 ∷ (99 ∷ (116 ∷ (32 �
 abbrev pub fail_words : List ℕ
 fail_words = 118 ∷ (101 ∷ (114 ∷ (100 ∷ (105 ∷ (99 ∷ (116 ∷ (32 ∷ (102 ∷ (97 ∷ (105 ∷ (108 ∷ [])))))))))))
 
-unfoldable pub verdict_line : VerdictAnswer → List ℕ
-verdict_line verdict.Pass = pass_words ++ feed
-verdict_line (verdict.Fail row number link) = fail_words ++ (field row ++ (field number ++ (field link ++ feed)))
-verdict_line (verdict.Refused number place) = refused_line number place
+unfoldable pub verdict_line : Result Verdict Refusal → List ℕ
+verdict_line (Ok verdict.Pass) = pass_words ++ feed
+verdict_line (Ok (verdict.Fail row number link)) = fail_words ++ (field row ++ (field number ++ (field link ++ feed)))
+verdict_line (Err e) = refused_line e.number e.place
 
 -- "for each step "step", the row, and "act" with the activity, "set" with link and 0 or 1, "open" or "clean""
 abbrev pub step_word : List ℕ
@@ -68,12 +69,12 @@ clean_word = 32 ∷ (99 ∷ (108 ∷ (101 ∷ (97 ∷ (110 ∷ [])))))
 unfoldable pub named_line : ℕ → List ℕ → List ℕ → List ℕ
 named_line row word values = step_word ++ (field row ++ (word ++ (fields values ++ feed)))
 
-unfoldable pub step_line : ℕ → StepKind → List ℕ
-step_line row (kind.Act a) = named_line row act_word (a ∷ [])
-step_line row (kind.Set l v) = named_line row set_word (l ∷ (v ∷ []))
-step_line row kind.Open = named_line row open_word []
-step_line row kind.Clean = named_line row clean_word []
-step_line row (kind.Refused number place) = refused_line number place
+unfoldable pub step_line : ℕ → Kind → List ℕ
+step_line row (Ok (kind.Act a)) = named_line row act_word (a ∷ [])
+step_line row (Ok (kind.Set l v)) = named_line row set_word (l ∷ (v ∷ []))
+step_line row (Ok kind.Open) = named_line row open_word []
+step_line row (Ok kind.Clean) = named_line row clean_word []
+step_line row (Err e) = refused_line e.number e.place
 
 -- ""links" with, if m is not 0, one space and then m letters u, f or t, not parted"
 abbrev pub links_word : List ℕ
@@ -119,8 +120,7 @@ unfoldable pub waiting_line : List ℕ → List ℕ → List ℕ
 waiting_line rows links = waiting_word ++ (wait_fields rows links ++ feed)
 
 -- ""enabled" with the rows." Document 02, request 1: "The program prints "finished", or "waiting" with those rows in rising order." By how the state stands, the steps that are listed, the rows that it waits for and what each waits for.
-unfoldable pub last_line : StandingAnswer → List ℕ → List ℕ → List ℕ → List ℕ
+unfoldable pub last_line : Stands → List ℕ → List ℕ → List ℕ → List ℕ
 last_line standing.Enabled steps waiting links = rows_line enabled_word steps
 last_line standing.Finished steps waiting links = finished_line
 last_line (standing.Waiting count) steps waiting links = waiting_line waiting links
-last_line (standing.Refused number place) steps waiting links = refused_line number place

@@ -2,13 +2,13 @@
 
 #![tactic(auto)]
 
-ghost use Rattle.std.specs.Prelude.{◌≡◌, ◌≤◌, [], ◌∷◌, length};
+ghost use Rattle.std.specs.Prelude.{◌≡◌, ◌≤◌, Ok, [], ◌∷◌, length};
 ghost use Rattle.lines.specs.Page.{page, Puts};
 ghost use Rattle.lines.specs.Lines.{decimal, feed, field, fields, named_line, step_line, verdict_line, refused_line, letter, letters, links_line, enabled_word, rows_line, wait_field, wait_fields, waiting_line, finished_line};
-ghost use Rattle.sheet_engine.specs.declared.VerdictAnswer.TheVariants.{Fail};
 
-use sheet_engine::VerdictAnswer;
+use sheet::Refusal;
 use state::StepKind;
+use verdict::Verdict;
 
 // A lent buffer, and how many bytes are put on it.
 #[derive(Drop)]
@@ -102,34 +102,38 @@ impl<'a> Page<'a> {
     }
 
     // A refusal: its number and its place.
-    pub fn refused_line(&mut self, no: u8, place: usize)
-        ensures { Puts self.old self.new (refused_line no place) }
+    pub fn refused_line(&mut self, refusal: Refusal)
+        ensures { Puts self.old self.new (refused_line refusal.number refusal.place) }
     {
         self.text(b"refused");
-        self.number(no as usize);
-        self.number(place);
+        self.number(refusal.number as usize);
+        self.number(refusal.place);
         self.feed();
     }
 
-    // A failing verdict: row, number and link.
-    fn fail_line(&mut self, row: usize, no: usize, link: usize)
-        ensures { Puts self.old self.new (verdict_line (Fail row no link)) }
+    // A verdict; of a failing one row, number and link.
+    fn given_line(&mut self, verdict: Verdict)
+        ensures { Puts self.old self.new (verdict_line (Ok verdict)) }
     {
-        self.text(b"verdict fail");
-        self.number(row);
-        self.number(no);
-        self.number(link);
-        self.feed();
+        match verdict {
+            Verdict::Pass => self.text(b"verdict pass\n"),
+            Verdict::Fail { row, number, link } => {
+                self.text(b"verdict fail");
+                self.number(row);
+                self.number(number);
+                self.number(link);
+                self.feed();
+            }
+        }
     }
 
     // The verdict, or the refusal of the table.
-    pub fn verdict_line(&mut self, verdict: VerdictAnswer)
+    pub fn verdict_line(&mut self, verdict: Result<Verdict, Refusal>)
         ensures { Puts self.old self.new (verdict_line verdict) }
     {
         match verdict {
-            VerdictAnswer::Pass => self.text(b"verdict pass\n"),
-            VerdictAnswer::Fail { row, number, link } => self.fail_line(row, number, link),
-            VerdictAnswer::Refused(number, place) => self.refused_line(number, place),
+            Ok(verdict) => self.given_line(verdict),
+            Err(refusal) => self.refused_line(refusal),
         }
     }
 
@@ -144,16 +148,15 @@ impl<'a> Page<'a> {
         self.feed();
     }
 
-    // The line of a step, or of its refusal.
-    pub fn step_line(&mut self, row: u8, kind: StepKind)
-        ensures { Puts self.old self.new (step_line row kind) }
+    // The line of a step.
+    pub fn step_line(&mut self, row: u8, step: StepKind)
+        ensures { Puts self.old self.new (step_line row (Ok step)) }
     {
-        match kind {
+        match step {
             StepKind::Act(a) => self.named_line(row, b" act", &[a]),
             StepKind::Set(l, v) => self.named_line(row, b" set", &[l, v]),
             StepKind::Open => self.named_line(row, b" open", b""),
             StepKind::Clean => self.named_line(row, b" clean", b""),
-            StepKind::Refused(number, place) => self.refused_line(number, place),
         }
     }
 

@@ -8,89 +8,84 @@ use lib.ListN.{length, length-drop, take, drop, get_or}
 use lib.Seq.{take_all}
 use borrow.Author.Tests.{le-leb, lt-leb}
 use Rattle.std.specs.Int.{w16, from_le_bytes}
+use Rattle.std.specs.Prelude.{Result, Ok, Err}
+use Rattle.state.specs.declared.State.{State}
+use Rattle.verdict.specs.declared.Verdict.{Verdict}
 use Rattle.laws.specs.Checks.{Check, Holds, place_of, checked}
 use Rattle.laws.proofs.Tests.{and_false}
 use Rattle.laws.proofs.Checks.{checked_append, checked_map, checked_holds, holds_end}
 use Rattle.sheet.specs.declared.Head.{Head}
 use Rattle.sheet.specs.declared.Refusal.{Refusal}
 use Rattle.sheet.specs.Table.{Table, table_of}
-use Rattle.sheet.specs.Rules.{refuse}
+use Rattle.sheet.specs.Rules.{no, as_refusal}
 use Rattle.sheet.specs.Sheet.{number_at, head_of, terms_of, conditions_of, table_in, sheet_checks}
-use Rattle.sheet.proofs.Refusals.{without, refused_by, accepted_by, one_place_fails, one_place_holds}
-use Rattle.codec.specs.declared.SheetAnswer.{SheetAnswer}
-use Rattle.codec.specs.declared.SheetAnswer.TheVariants as sheet
+use Rattle.sheet.proofs.Refusals.{one_place_fails, one_place_holds}
 use Rattle.codec.specs.Answers.{read_of, part_of}
 use Rattle.codec.proofs.Judged.{accepted_is}
 use Rattle.codec.proofs.Parts.{part_whole}
 use Rattle.moves.specs.Steps.{start_of}
 use Rattle.moves.specs.Fits.{mode_check}
-use Rattle.sheet_engine.specs.declared.VerdictAnswer.{VerdictAnswer}
-use Rattle.sheet_engine.specs.declared.Started.{Started}
-use Rattle.sheet_engine.specs.Answers.{start_checks, started, not_started, start_answer, verdict_answer}
+use Rattle.sheet_engine.specs.Answers.{start_checks, start_answer, verdict_answer}
 use Rattle.sheet_engine.proofs.Promises.{start_answered, start_is_fresh}
 use Rattle.promises.specs.Calls.{Accepted}
 use Rattle.promises.proofs.Fresh.{fresh_state}
 use Rattle.lines.specs.Lines.{refused_line, verdict_line}
 use Rattle.printing.specs.Printed.{mode_in, size_in, sheet_in, rows_in, complete, step_lines, run_lines, sheet_lines, printed}
 
+-- an answer, in any words
+module _ {A B : Type 0} (bad : ℕ → ℕ → B) (fine : B) where
+  worded : Result A Refusal → B
+  worded (Ok x) = fine
+  worded (Err e) = bad e.number e.place
+
+  words : (good : A) (cs : List Check) (a : Result A Refusal) → a ≡ checked no (Ok good) cs → worded a ≡ checked bad fine cs
+  unfolding worded
+  words good cs a told = ap worded told ∙ checked_map worded no (Ok good) cs
+
+  pub words_ok : (good : A) (cs : List Check) (a : Result A Refusal) → a ≡ checked no (Ok good) cs → (x : A) → a ≡ Ok x → fine ≡ checked bad fine cs
+  unfolding worded
+  words_ok good cs a told x is = ap worded (sym is) ∙ words good cs a told
+
+  pub words_err : (good : A) (cs : List Check) (a : Result A Refusal) → a ≡ checked no (Ok good) cs → (e : Refusal) → a ≡ Err e → bad e.number e.place ≡ checked bad fine cs
+  unfolding worded
+  words_err good cs a told e is = ap worded (sym is) ∙ words good cs a told
+
 -- starting
-module _ (t : Table) (mode : ℕ) (a : Started) (told : a ≡ start_answer t mode) where
-  begun : refuse a.number a.place ≡ checked refuse (refuse 0 0) (start_checks t mode)
+module _ (t : Table) (mode : ℕ) (a : Result State Refusal) (told : a ≡ start_answer t mode) where
+  pub run_refused : (rows : List ℕ) (e : Refusal) → a ≡ Err e → refused_line e.number e.place ≡ checked refused_line (run_lines t mode rows) (start_checks t mode)
   unfolding start_answer
-  begun = ap (λ (r : Started). refuse r.number r.place) told ∙ checked_map (λ (r : Started). refuse r.number r.place) not_started (started 0 0 (start_of t mode)) (start_checks t mode)
+  run_refused rows e is = words_err refused_line (run_lines t mode rows) (start_of t mode) (start_checks t mode) a told e is
 
-  pub run_refused : (rows : List ℕ) → (a.number ≡ 0 → ⊥) → refused_line a.number a.place ≡ checked refused_line (run_lines t mode rows) (start_checks t mode)
-  unfolding without
-  run_refused rows h = ap (λ (r : Refusal). refused_line r.number r.place) begun ∙ refused_by refused_line (run_lines t mode rows) (start_checks t mode) refl (λ e. h (ap (λ (r : Refusal). r.number) begun ∙ e))
+  module _ (s : State) (is : a ≡ Ok s) where
+    number_is : (as_refusal (start_answer t mode)).number ≡ 0
+    number_is = ap (λ (r : Result State Refusal). (as_refusal r).number) (sym told ∙ is)
 
-  number_is : a.number ≡ 0 → (start_answer t mode).number ≡ 0
-  number_is e = ap (λ (r : Started). r.number) (sym told) ∙ e
+    fresh : s ≡ start_of t mode
+    fresh = let known : a ≡ Ok (start_of t mode) = told ∙ start_is_fresh t mode number_is in cc
 
-  fresh : a.number ≡ 0 → a.state ≡ start_of t mode
-  fresh e = ap (λ (r : Started). r.state) told ∙ start_is_fresh t mode (number_is e)
+    pub run_begins : Accepted t s
+    run_begins = let (b, m) = (start_answered t mode).0 number_is in subst (Accepted t) (sym fresh) (fresh_state t b mode m)
 
-  pub run_begins : a.number ≡ 0 → Accepted t a.state
-  run_begins e = let (b, m) = (start_answered t mode).0 (number_is e) in subst (Accepted t) (sym (fresh e)) (fresh_state t b mode m)
-
-  pub run_goes : (rows : List ℕ) (v : VerdictAnswer) → v ≡ verdict_answer t → a.number ≡ 0 → verdict_line v ++ step_lines t a.state rows ≡ checked refused_line (run_lines t mode rows) (start_checks t mode)
-  unfolding without run_lines
-  run_goes rows v d e = rw (d, fresh e) (accepted_by refused_line (run_lines t mode rows) (start_checks t mode) refl (ap (λ (r : Refusal). r.number) (sym begun) ∙ e))
+    pub run_goes : (rows : List ℕ) (v : Result Verdict Refusal) → v ≡ verdict_answer t → verdict_line v ++ step_lines t s rows ≡ checked refused_line (run_lines t mode rows) (start_checks t mode)
+    unfolding start_answer run_lines
+    run_goes rows v d = rw (d, fresh) (words_ok refused_line (run_lines t mode rows) (start_of t mode) (start_checks t mode) a told s is)
 
 past : {A : Type 0} (answer : ℕ → ℕ → A) (good : A) (c : Check) (cs : List Check) → Holds c → checked answer good cs ≡ checked answer good (c ∷ cs)
 past answer good c cs h = checked_holds answer good c cs (place_of c) refl (holds_end c h)
 
 -- the sheet
-refusal_in : SheetAnswer → Refusal
-refusal_in (sheet.Sheet h) = refuse 0 0
-refusal_in (sheet.Refused n p) = refuse n p
-
-headed : (h : Head) (n p : ℕ) → sheet.Sheet h ≡ sheet.Refused n p → ⊥
-headed h n p e = let z : ◌≡◌ {A = ℕ} 0 1 = ap told e in omega (arith, z)
-  where
-    told : SheetAnswer → ℕ
-    told (sheet.Sheet h) = 0
-    told (sheet.Refused n p) = 1
-
-module _ (s : List ℕ) (mode : ℕ) (rows : List ℕ) (a : SheetAnswer) (told : a ≡ read_of s) where
-  pub sheet_goes : (h : Head) (ts cs xs : List ℕ) → a ≡ sheet.Sheet h → ts ≡ part_of s (terms_of s) → cs ≡ part_of s (conditions_of s) → xs ≡ checked refused_line (run_lines (table_of h ts cs) mode rows) (start_checks (table_of h ts cs) mode) → xs ≡ sheet_lines mode s rows
+module _ (s : List ℕ) (mode : ℕ) (rows : List ℕ) (a : Result Head Refusal) (told : a ≡ read_of s) where
+  pub sheet_goes : (h : Head) (ts cs xs : List ℕ) → a ≡ Ok h → ts ≡ part_of s (terms_of s) → cs ≡ part_of s (conditions_of s) → xs ≡ checked refused_line (run_lines (table_of h ts cs) mode rows) (start_checks (table_of h ts cs) mode) → xs ≡ sheet_lines mode s rows
   unfolding sheet_lines
   sheet_goes h ts cs xs e f g x =
       let r = accepted_is s h (sym told ∙ e) in
       let q : table_of h ts cs ≡ table_in s = rw (r.head, f ∙ sym (part_whole s (terms_of s) a told h e), g ∙ sym (part_whole s (conditions_of s) a told h e)) refl in
       x ∙ (ap (λ (t : Table). checked refused_line (run_lines t mode rows) (start_checks t mode)) q ∙ (past refused_line _ _ _ r.sound ∙ past refused_line _ _ _ r.size))
 
-  refused : (n p : ℕ) → a ≡ sheet.Refused n p → refuse n p ≡ checked refuse (refuse 0 0) (sheet_checks s)
-  unfolding read_of refusal_in
-  refused n p e = ap refusal_in (sym e ∙ told) ∙ checked_map refusal_in sheet.Refused (sheet.Sheet (head_of s)) (sheet_checks s)
-
-  numbered_not : (n p : ℕ) → a ≡ sheet.Refused n p → n ≡ 0 → ⊥
-  unfolding read_of without
-  numbered_not n p e z = headed (head_of s) n p (accepted_by sheet.Refused (sheet.Sheet (head_of s)) (sheet_checks s) refl (ap (λ (r : Refusal). r.number) (sym (refused n p e)) ∙ z) ∙ (sym told ∙ e))
-
-  pub sheet_refused : (n p : ℕ) → a ≡ sheet.Refused n p → refused_line n p ≡ sheet_lines mode s rows
-  unfolding sheet_lines without
-  sheet_refused n p e =
-      ap (λ (r : Refusal). refused_line r.number r.place) (refused n p e) ∙ (refused_by refused_line (checked refused_line (run_lines (table_in s) mode rows) (mode_check mode ∷ [])) (sheet_checks s) refl (λ z. numbered_not n p e (ap (λ (r : Refusal). r.number) (refused n p e) ∙ z)) ∙ sym (checked_append refused_line (run_lines (table_in s) mode rows) (sheet_checks s) (mode_check mode ∷ [])))
+  pub sheet_refused : (e : Refusal) → a ≡ Err e → refused_line e.number e.place ≡ sheet_lines mode s rows
+  unfolding sheet_lines read_of
+  sheet_refused e is =
+      words_err refused_line (checked refused_line (run_lines (table_in s) mode rows) (mode_check mode ∷ [])) (head_of s) (sheet_checks s) a told e is ∙ sym (checked_append refused_line (run_lines (table_in s) mode rows) (sheet_checks s) (mode_check mode ∷ []))
 
 -- the input
 module _ (input : List ℕ) where

@@ -24,7 +24,7 @@ use Rattle.steps.specs.Rows.{Row, NIL, PREFIX, BRANCH}
 use Rattle.steps.specs.InFront.{waiting_step, waiting_steps}
 use Rattle.sheet.specs.declared.Refusal.{Refusal}
 use Rattle.sheet.specs.Table.{Table, row_by, row_at}
-use Rattle.sheet.specs.Rules.{table_checks, refuse, refusal_of}
+use Rattle.sheet.specs.Rules.{table_checks, refuse, no, refusal_of}
 use Rattle.sheet.specs.Sheet.{terms_at, number_at, terms_of, table_in, sheet_checks}
 use Rattle.sheet.specs.Accepted.{WellFormed}
 use Rattle.sheet.proofs.Accepted.{meets, well_formed, narrow_joins}
@@ -42,8 +42,8 @@ use Rattle.moves.proofs.Kept.{run_length}
 use Rattle.verdict.specs.declared.Verdict.{Verdict}
 use Rattle.verdict.specs.declared.Verdict.TheVariants as verdict
 use Rattle.verdict.specs.Verdict.{verdict_of}
-use Rattle.sheet_engine.specs.declared.VerdictAnswer.TheVariants as answer
-use Rattle.sheet_engine.specs.Answers.{given, verdict_answer, standing_of}
+use Rattle.std.specs.Prelude.{Ok}
+use Rattle.sheet_engine.specs.Answers.{verdict_answer, standing_of}
 use Rattle.sheet_engine.proofs.Promises.{fail_values}
 use Rattle.sheet_engine.proofs.Steps.{no_kind}
 use Rattle.promises.specs.Calls.{Accepted}
@@ -76,10 +76,10 @@ bytes_take (suc n) (x ∷ xs) h (suc i) = bytes_take n xs (λ j. h (suc j)) i
 
 -- THE VERDICT: eight links give numbers below 3 to the 8
 verdict_short : (t : Table) → (refusal_of t).number ≡ 0 → Short (verdict_line (verdict_answer t)) 25
-unfolding verdict_answer given
-verdict_short t e = let q = meets_accepted answer.Refused (given (verdict_of t)) t (meets t e) in rw q (at (verdict_of t) q)
+unfolding verdict_answer
+verdict_short t e = let q = meets_accepted no (Ok (verdict_of t)) t (meets t e) in rw q (at (verdict_of t) q)
   where
-    at : (v : Verdict) → verdict_answer t ≡ given v → Short (verdict_line (given v)) 25
+    at : (v : Verdict) → verdict_answer t ≡ Ok v → Short (verdict_line (Ok v)) 25
     at verdict.Pass q = within 13 25 (omega arith) pass_short
     at (verdict.Fail j x l) q =
         let w = well_formed t (meets t e) in

@@ -14,10 +14,9 @@ ghost use Rattle.printing.specs.Printed.{end_lines, step_lines, run_lines, sheet
 ghost use Rattle.printing.specs.Parts.{the_table};
 ghost use Rattle.promises.specs.Calls.{Accepted};
 
-use codec::{SheetAnswer, SizeAnswer};
 use lines::Page;
-use sheet::Head;
-use sheet_engine::StandingAnswer;
+use sheet::{Head, Refusal};
+use sheet_engine::Stands;
 use state::State;
 
 // No output is longer: the verdict's line, 256 steps, the links, and 256 rows that are waited for, each with its link.
@@ -38,8 +37,8 @@ fn listed_line(out: &mut Page, s: State, t: Parts)
 {
     let mut rows = [0; 256];
     match sheet_engine::list_steps(s, t.head, t.terms, t.conditions, &mut rows) {
-        SizeAnswer::Size(count) => out.enabled_line(&rows[..count]),
-        SizeAnswer::Refused(number, place) => out.refused_line(number, place),
+        Ok(count) => out.enabled_line(&rows[..count]),
+        Err(refusal) => out.refused_line(refusal),
     }
 }
 
@@ -50,8 +49,8 @@ fn waited_line(out: &mut Page, s: State, t: Parts, rows: &[u8])
 {
     let mut links = [0; 256];
     match sheet_engine::waits_for(s, t.head, t.terms, t.conditions, &mut links) {
-        SizeAnswer::Size(count) => out.waiting_line(rows, &links[..count]),
-        SizeAnswer::Refused(number, place) => out.refused_line(number, place),
+        Ok(count) => out.waiting_line(rows, &links[..count]),
+        Err(refusal) => out.refused_line(refusal),
     }
 }
 
@@ -64,10 +63,10 @@ fn end_lines(out: &mut Page, s: State, t: Parts)
     out.links_line(t.head.m, &links);
     let mut rows = [0; 256];
     match sheet_engine::standing(s, t.head, t.terms, t.conditions, &mut rows) {
-        StandingAnswer::Enabled => listed_line(out, s, t),
-        StandingAnswer::Finished => out.finished_line(),
-        StandingAnswer::Waiting(count) => waited_line(out, s, t, &rows[..count]),
-        StandingAnswer::Refused(number, place) => out.refused_line(number, place),
+        Ok(Stands::Enabled) => listed_line(out, s, t),
+        Ok(Stands::Finished) => out.finished_line(),
+        Ok(Stands::Waiting(count)) => waited_line(out, s, t, &rows[..count]),
+        Err(refusal) => out.refused_line(refusal),
     }
 }
 
@@ -79,13 +78,16 @@ fn step_lines(out: &mut Page, s: State, t: Parts, rows: &[u8])
     let mut state = s;
     for row in rows {
         let next = sheet_engine::take_step(state, t.head, t.terms, t.conditions, *row as usize);
-        let kind = next.answer;
-        if !next.ok {
-            out.step_line(*row, kind);
-            return;
+        match next.answer {
+            Ok(step) => {
+                out.step_line(*row, step);
+                state = next.state;
+            }
+            Err(refusal) => {
+                out.refused_line(refusal);
+                return;
+            }
         }
-        out.step_line(*row, kind);
-        state = next.state;
     }
     end_lines(out, state, t)
 }
@@ -94,16 +96,13 @@ fn step_lines(out: &mut Page, s: State, t: Parts, rows: &[u8])
 fn run_lines(out: &mut Page, mode: u8, t: Parts, rows: &[u8])
     ensures { Puts out.old out.new (checked refused_line (run_lines (the_table t.entry) mode rows.now) (start_checks (the_table t.entry) mode)) }
 {
-    let started = sheet_engine::start(t.head, t.terms, t.conditions, mode);
-    let number = started.number;
-    let place = started.place;
-    if number != 0 {
-        out.refused_line(number, place);
-        return;
+    match sheet_engine::start(t.head, t.terms, t.conditions, mode) {
+        Ok(state) => {
+            out.verdict_line(sheet_engine::give_verdict(t.head, t.terms, t.conditions));
+            step_lines(out, state, t, rows)
+        }
+        Err(refusal) => out.refused_line(refusal),
     }
-    let state = started.state;
-    out.verdict_line(sheet_engine::give_verdict(t.head, t.terms, t.conditions));
-    step_lines(out, state, t, rows)
 }
 
 // A sheet's refusal, or its run.
@@ -111,7 +110,7 @@ fn sheet_lines(out: &mut Page, mode: u8, sheet: &[u8], rows: &[u8])
     ensures { Puts out.old out.new (sheet_lines mode sheet.now rows.now) }
 {
     match sheet_engine::read_sheet(sheet) {
-        SheetAnswer::Sheet(head) => {
+        Ok(head) => {
             let terms = sheet_engine::terms_part(sheet);
             let conditions = sheet_engine::conditions_part(sheet);
             let t = Parts {
@@ -121,9 +120,15 @@ fn sheet_lines(out: &mut Page, mode: u8, sheet: &[u8], rows: &[u8])
             };
             run_lines(out, mode, t, rows)
         }
-        SheetAnswer::Refused(number, place) => out.refused_line(number, place),
+        Err(refusal) => out.refused_line(refusal),
     }
 }
+
+// 1: the input ends before the sheet is complete.
+const CUT: Refusal = Refusal {
+    number: 1,
+    place: 0,
+};
 
 // What is printed for an input.
 fn input_lines(out: &mut Page, input: &[u8])
@@ -131,12 +136,12 @@ fn input_lines(out: &mut Page, input: &[u8])
 {
     let length = input.len();
     if length < 3 {
-        out.refused_line(1, 0);
+        out.refused_line(CUT);
         return;
     }
     let size = u16::from_le_bytes([input[1], input[2]]) as usize;
     if length - 3 < size {
-        out.refused_line(1, 0);
+        out.refused_line(CUT);
         return;
     }
     let end = 3 + size;

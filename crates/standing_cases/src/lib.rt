@@ -2,25 +2,24 @@
 
 #![tactic(auto)]
 
-use cases::{Cases, Refused, Said, Table, first, told_size};
-use sheet_engine::StandingAnswer;
+use cases::{Cases, Refused, Said, Table, first, told};
+use sheet_engine::Stands;
 use state::State;
 use std::io::Read;
 
 // A word, and how many rows are waited for; or why nothing is told.
 type Told = Result<Said, Refused>;
 
-fn told(word: u8, x: usize) -> Told {
-    Ok(Said { word, x, y: 0 })
+fn counted(word: u8, x: usize) -> Said {
+    Said { word, x, y: 0 }
 }
 
 // The words are 0 steps are listed, 1 finished, 2 waiting.
-fn told_standing(answer: StandingAnswer) -> Told {
-    match answer {
-        StandingAnswer::Enabled => told(0, 0),
-        StandingAnswer::Finished => told(1, 0),
-        StandingAnswer::Waiting(rows) => told(2, rows),
-        StandingAnswer::Refused(number, place) => Err((number, place)),
+fn stands_said(stands: Stands) -> Said {
+    match stands {
+        Stands::Enabled => counted(0, 0),
+        Stands::Finished => counted(1, 0),
+        Stands::Waiting(rows) => counted(2, rows),
     }
 }
 
@@ -35,7 +34,7 @@ fn read_told(case: &mut Cases<impl Read>, length: usize, linked: bool) -> Option
     if let Err(refused) = case.refusal()? {
         return Some(Err(refused));
     }
-    Some(told(case.byte()?, rows_told(length, linked)))
+    Some(Ok(counted(case.byte()?, rows_told(length, linked))))
 }
 
 // The rows and, where the file has them, the link behind each, at the start of two buffers: no state waits for more than 256.
@@ -105,14 +104,14 @@ pub fn agrees(case: &mut Cases<impl Read>, linked: bool) -> Option<bool> {
     let mut links = [cases::BLANK; 256];
     read_rows(case, count, linked, &mut rows, &mut links)?;
     let stands = |out: &mut [u8]| {
-        told_standing(sheet_engine::standing(s, t.head, t.terms, t.conditions, out))
+        let answer = sheet_engine::standing(s, t.head, t.terms, t.conditions, out);
+        told(answer).map(stands_said)
     };
     let waits = |out: &mut [u8]| {
-        told_size(sheet_engine::waits_for(s, t.head, t.terms, t.conditions, out)).and_then(
-            |size| told(0, size),
-        )
+        let answer = sheet_engine::waits_for(s, t.head, t.terms, t.conditions, out);
+        told(answer).map(|size| counted(0, size))
     };
-    let waited = expected.and_then(|said| told(0, said.x));
+    let waited = expected.map(|said| counted(0, said.x));
     Some(
         (asked.call == 1)
             & rooms_agree(&stands, asked.room, expected, &rows)

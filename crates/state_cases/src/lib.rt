@@ -2,7 +2,9 @@
 
 #![tactic(auto)]
 
-use cases::{Cases, Refused, Said, Table, same_state, told_kind};
+use cases::{Cases, Refused, Said, Table, same_state, step_said, told};
+use engine::Stepped;
+use sheet::Refusal;
 use state::{State, StepKind};
 use std::io::Read;
 
@@ -22,17 +24,12 @@ fn read_told(case: &mut Cases<impl Read>) -> Option<Result<Said, Refused>> {
 fn step_agrees(case: &mut Cases<impl Read>, s: State, t: Table, row: usize) -> Option<bool> {
     let expected = read_told(case)?;
     let after = if expected.is_ok() { case.state()? } else { s };
-    let left = |answer: StepKind, state: State| {
-        (told_kind(answer) == expected) & same_state(state, after)
-    };
+    let answered = |answer: Result<StepKind, Refusal>| told(answer).map(step_said) == expected;
+    let left = |next: Stepped| answered(next.answer) & same_state(next.state, after);
     let kind = sheet_engine::step_kind(s, t.head, t.terms, t.conditions, row);
     let taken = sheet_engine::take_step(s, t.head, t.terms, t.conditions, row);
     let placed = lent::step_lent(s, t.head, t.terms, t.conditions, row);
-    Some(
-        (told_kind(kind) == expected)
-            & left(taken.answer, taken.state)
-            & left(placed.answer, placed.state),
-    )
+    Some(answered(kind) & left(taken) & left(placed))
 }
 
 fn list_agrees(case: &mut Cases<impl Read>, s: State, t: Table, room: usize) -> Option<bool> {

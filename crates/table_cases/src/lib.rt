@@ -2,10 +2,8 @@
 
 #![tactic(auto)]
 
-use cases::{Cases, Refused, Table, first, told_size};
-use codec::SheetAnswer;
-use sheet::Head;
-use sheet_engine::VerdictAnswer;
+use cases::{Cases, Refused, Table, first, told};
+use sheet::{Head, Refusal};
 use std::io::Read;
 
 fn same_head(a: Head, b: Head) -> bool {
@@ -26,13 +24,13 @@ fn rows_agree(part: &[u8], rows: usize, lent: &[u8]) -> bool {
 // A written sheet read back: its head, and the three parts.
 fn sheet_agrees(sheet: &[u8], t: Table) -> bool {
     match sheet_engine::read_sheet(sheet) {
-        SheetAnswer::Sheet(head) => {
+        Ok(head) => {
             same_head(head, t.head)
                 & settings_agree(sheet_engine::settings_part(sheet), t.head)
                 & rows_agree(sheet_engine::terms_part(sheet), t.head.n, t.terms)
                 & rows_agree(sheet_engine::conditions_part(sheet), t.head.k, t.conditions)
         }
-        SheetAnswer::Refused(_, _) => false,
+        Err(_) => false,
     }
 }
 
@@ -47,8 +45,8 @@ fn no_parts(sheet: &[u8]) -> bool {
 fn cut_agrees(cut: &[u8]) -> bool {
     let expected = if cut.len() < 22 { (1, 0) } else { (2, 11) };
     match sheet_engine::read_sheet(cut) {
-        SheetAnswer::Sheet(_) => false,
-        SheetAnswer::Refused(number, place) => ((number, place) == expected) & no_parts(cut),
+        Ok(_) => false,
+        Err(refusal) => ((refusal.number, refusal.place) == expected) & no_parts(cut),
     }
 }
 
@@ -56,30 +54,9 @@ fn written_agrees(out: &[u8], size: usize, t: Table) -> bool {
     (size != 0) && sheet_agrees(first(out, size), t) & cut_agrees(first(out, size - 1))
 }
 
-// Nothing, or number and place of a refusal.
-fn refused(number: u8, place: usize) -> Result<(), Refused> {
-    if number == 0 {
-        Ok(())
-    } else {
-        Err((number, place))
-    }
-}
-
-fn judged(t: Table) -> Result<(), Refused> {
-    let r = sheet_engine::judge_table(t.head, t.terms, t.conditions);
-    refused(r.number, r.place)
-}
-
-fn verdict_given(t: Table) -> Result<(), Refused> {
-    match sheet_engine::give_verdict(t.head, t.terms, t.conditions) {
-        VerdictAnswer::Refused(number, place) => Err((number, place)),
-        _ => Ok(()),
-    }
-}
-
-fn started(t: Table) -> Result<(), Refused> {
-    let s = sheet_engine::start(t.head, t.terms, t.conditions, 1);
-    refused(s.number, s.place)
+// Whether a call that answers something is refused as it has to be.
+fn refused_alike<T: Drop>(answer: Result<T, Refusal>, expected: Result<(), Refused>) -> bool {
+    told(answer).map(|_| ()) == expected
 }
 
 // Judging, the verdict and starting answer what writing does, but that a short buffer is no fault of the table; what was written is read back.
@@ -88,9 +65,12 @@ fn others_agree(answer: Result<usize, Refused>, out: &[u8], t: Table) -> bool {
         Ok(_) | Err((12, _)) => Ok(()),
         Err(refused) => Err(refused),
     };
-    (judged(t) == expected)
-        & (verdict_given(t) == expected)
-        & (started(t) == expected)
+    let judged = sheet_engine::judge_table(t.head, t.terms, t.conditions);
+    let verdict = sheet_engine::give_verdict(t.head, t.terms, t.conditions);
+    let started = sheet_engine::start(t.head, t.terms, t.conditions, 1);
+    refused_alike(judged, expected)
+        & refused_alike(verdict, expected)
+        & refused_alike(started, expected)
         & answer.map_or(true, |size| written_agrees(out, size, t))
 }
 
@@ -99,7 +79,7 @@ fn write_agrees(case: &mut Cases<impl Read>, t: Table, room: usize) -> Option<bo
     let out = cases::lend(&mut buffer, room);
     let answer = sheet_engine::write_sheet(t.head, t.terms, t.conditions, out);
     let same = case.size_agrees(answer, out)?;
-    Some(same & others_agree(told_size(answer), out, t))
+    Some(same & others_agree(told(answer), out, t))
 }
 
 // The rest of a case, whose input begins here.

@@ -14,29 +14,29 @@ links_line-requires c = let g = c.requires in omega (arith, (formed g).few_links
 
 pub slice_bounds-rows-end : goal.slice_bounds-rows-end
 slice_bounds-rows-end c =
-    waited_lies _ _ c.requires (replicate 256 0) refl _ c.standing.ensures.value.0 _ _ c.in-Waiting.is c.standing.ensures.value.1
+    waited_lies _ _ c.requires (replicate 256 0) refl _ c.standing.ensures.value.0 _ _ _ c.in-Ok-Waiting.is c.in-Ok-Waiting.field-0-is c.standing.ensures.value.1
 
 pub slice_bounds-waited_line-end : goal.slice_bounds-waited_line-end
 slice_bounds-waited_line-end c =
-    sym (length-take-le _ _ (waited_lies _ _ c.requires (replicate 256 0) refl _ c.standing.ensures.value.0 _ _ c.in-Waiting.is c.standing.ensures.value.1))
+    sym (length-take-le _ _ (waited_lies _ _ c.requires (replicate 256 0) refl _ c.standing.ensures.value.0 _ _ _ c.in-Ok-Waiting.is c.in-Ok-Waiting.field-0-is c.standing.ensures.value.1))
 
 pub waited_line-requires : goal.waited_line-requires
 waited_line-requires c =
     let p = c.requires in
-    (p, waited_part _ _ p (replicate 256 0) refl _ c.standing.ensures.value.0 _ _ c.in-Waiting.is c.standing.ensures.value.1)
+    (p, waited_part _ _ p (replicate 256 0) refl _ c.standing.ensures.value.0 _ _ _ c.in-Ok-Waiting.is c.in-Ok-Waiting.field-0-is c.standing.ensures.value.1)
 
-pub returns-in-Enabled : goal.returns-in-Enabled
+pub returns-in-Ok-Enabled : goal.returns-in-Ok-Enabled
 unfolding end_lines last_line
-returns-in-Enabled c = then c.links_line.ensures (puts_as c.listed_line.ensures (line_of _ _ c.requires (replicate 256 0) refl _ c.standing.ensures.value.0 _ c.in-Enabled.is))
+returns-in-Ok-Enabled c = then c.links_line.ensures (puts_as c.listed_line.ensures (line_of _ _ c.requires (replicate 256 0) refl _ c.standing.ensures.value.0 _ _ c.in-Ok-Enabled.is c.in-Ok-Enabled.field-0-is))
 
-pub returns-in-Finished : goal.returns-in-Finished
+pub returns-in-Ok-Finished : goal.returns-in-Ok-Finished
 unfolding end_lines last_line
-returns-in-Finished c = then c.links_line.ensures (puts_as c.finished_line.ensures (line_of _ _ c.requires (replicate 256 0) refl _ c.standing.ensures.value.0 _ c.in-Finished.is))
+returns-in-Ok-Finished c = then c.links_line.ensures (puts_as c.finished_line.ensures (line_of _ _ c.requires (replicate 256 0) refl _ c.standing.ensures.value.0 _ _ c.in-Ok-Finished.is c.in-Ok-Finished.field-0-is))
 
-pub returns-in-Waiting : goal.returns-in-Waiting
+pub returns-in-Ok-Waiting : goal.returns-in-Ok-Waiting
 unfolding end_lines last_line
-returns-in-Waiting c =
-    then c.links_line.ensures (puts_as c.waited_line.ensures (line_of _ _ c.requires (replicate 256 0) refl _ c.standing.ensures.value.0 _ c.in-Waiting.is))
+returns-in-Ok-Waiting c =
+    then c.links_line.ensures (puts_as c.waited_line.ensures (line_of _ _ c.requires (replicate 256 0) refl _ c.standing.ensures.value.0 _ _ c.in-Ok-Waiting.is c.in-Ok-Waiting.field-0-is))
 
-pub returns-in-Refused : goal.returns-in-Refused
-returns-in-Refused c = absurd (stand_unrefused _ _ c.requires (replicate 256 0) refl _ c.standing.ensures.value.0 _ _ (sym c.in-Refused.is))
+pub returns-in-Err : goal.returns-in-Err
+returns-in-Err c = absurd (stand_unrefused _ _ c.requires (replicate 256 0) refl _ c.standing.ensures.value.0 _ c.in-Err.is)

@@ -8,17 +8,17 @@ use Rattle.printing.proofs.listed_line.Goals as goal
 
 pub slice_bounds-rows-end : goal.slice_bounds-rows-end
 slice_bounds-rows-end c =
-    fetched_lies (listed_fetched _ _ c.requires (replicate 256 0) refl _ _ c.list_steps.ensures.value) _ c.in-Size.is
+    fetched_lies (listed_fetched _ _ c.requires (replicate 256 0) refl _ _ c.list_steps.ensures.value) _ c.in-Ok.is
 
 pub slice_bounds-enabled_line-end : goal.slice_bounds-enabled_line-end
 slice_bounds-enabled_line-end c =
-    sym (length-take-le _ _ (fetched_lies (listed_fetched _ _ c.requires (replicate 256 0) refl _ _ c.list_steps.ensures.value) _ c.in-Size.is))
+    sym (length-take-le _ _ (fetched_lies (listed_fetched _ _ c.requires (replicate 256 0) refl _ _ c.list_steps.ensures.value) _ c.in-Ok.is))
 
-pub returns-in-Size : goal.returns-in-Size
-returns-in-Size c =
-    let rows = fetched_part (listed_fetched _ _ c.requires (replicate 256 0) refl _ _ c.list_steps.ensures.value) _ c.in-Size.is in
+pub returns-in-Ok : goal.returns-in-Ok
+returns-in-Ok c =
+    let rows = fetched_part (listed_fetched _ _ c.requires (replicate 256 0) refl _ _ c.list_steps.ensures.value) _ c.in-Ok.is in
     puts_as c.enabled_line.ensures (ap (rows_line enabled_word) rows)
 
-pub returns-in-Refused : goal.returns-in-Refused
-returns-in-Refused c =
-    absurd (fetched_unrefused (listed_fetched _ _ c.requires (replicate 256 0) refl _ _ c.list_steps.ensures.value) _ _ c.in-Refused.is)
+pub returns-in-Err : goal.returns-in-Err
+returns-in-Err c =
+    absurd (fetched_unrefused (listed_fetched _ _ c.requires (replicate 256 0) refl _ _ c.list_steps.ensures.value) _ c.in-Err.is)

@@ -3,14 +3,9 @@ use Rattle.lines.specs.Lines.{verdict_line}
 use Rattle.lines.proofs.Pages.{puts_as}
 use Rattle.lines.proofs.Page.verdict_line.Goals as goal
 
-pub returns-in-Pass : goal.returns-in-Pass
-unfolding verdict_line
-returns-in-Pass c = puts_as c.text.ensures (ap verdict_line (sym c.in-Pass.is))
+pub returns-in-Ok : goal.returns-in-Ok
+returns-in-Ok c = puts_as c.given_line.ensures (ap verdict_line (sym c.in-Ok.is))
 
-pub returns-in-Fail : goal.returns-in-Fail
+pub returns-in-Err : goal.returns-in-Err
 unfolding verdict_line
-returns-in-Fail c = puts_as c.fail_line.ensures (ap verdict_line (sym c.in-Fail.is))
-
-pub returns-in-Refused : goal.returns-in-Refused
-unfolding verdict_line
-returns-in-Refused c = puts_as c.refused_line.ensures (ap verdict_line (sym c.in-Refused.is))
+returns-in-Err c = puts_as c.refused_line.ensures (ap verdict_line (sym c.in-Err.is))
