@@ -23,7 +23,7 @@ use Rattle.lanes.specs.declared.Lanes.{Lanes}
 use Rattle.lanes.specs.Lanes.{Shows, link_lanes, LinksShow, Valued}
 use Rattle.words.specs.declared.Base.{Base}
 use Rattle.words.specs.declared.Base.TheVariants.{Two, Three}
-use Rattle.words.specs.Words.{digit_is, Words}
+use Rattle.words.specs.Words.{base_of, digit_is, Words}
 use Rattle.failure.specs.Blocks.{Failing, given, steady_at, Unsteady}
 use Rattle.failure.specs.Failure.{Narrow}
 use Rattle.failure.proofs.Search.{narrow_links}
@@ -105,15 +105,11 @@ unsteady_is e cs row trues falses r small f v s j h =
     let (t, g, k) = f v s j h in
     bit_and_law r.trues (2 ^ 64 - 1 - r.kept) j ∙ ap₂ ◌&&◌ t (bit_not 64 r.kept j small h) ∙ lane (eval_of e cs row (v j)) (has_bit r.kept j) ∙ rw k refl
 
--- 64 numbers in a base
-module _ (p : ℕ → Bool) (m x : ℕ) (h : m ≤ 64) (trues falses : List ℕ) where
-  pub show_two : Words 2 1 (listed p 0 m) x trues → Words 2 0 (listed p 0 m) x falses → LinksShow trues falses (λ j. given Two (listed p 0 m) (x + j))
-  unfolding given
-  show_two = show_total p m x h trues falses
-
-  pub show_three : Words 3 2 (listed p 0 m) x trues → Words 3 1 (listed p 0 m) x falses → LinksShow trues falses (λ j. given Three (listed p 0 m) (x + j))
-  unfolding given
-  show_three = show_assign p m x h trues falses
+-- 64 numbers in a base, from the words of the digit of true and of the one below
+pub show_given : (p : ℕ → Bool) (m x : ℕ) → m ≤ 64 → (trues falses : List ℕ) (b : Base) (d : ℕ) → d + 1 ≡ base_of b → Words (base_of b) d (listed p 0 m) x trues → Words (base_of b) (d - 1) (listed p 0 m) x falses → LinksShow trues falses (λ j. given b (listed p 0 m) (x + j))
+unfolding given base_of
+show_given p m x h trues falses Two d e t f = let z : d ≡ 1 = omega arith in show_total p m x h trues falses (rw z at t) (rw z at f)
+show_given p m x h trues falses Three d e t f = let z : d ≡ 2 = omega arith in show_assign p m x h trues falses (rw z at t) (rw z at f)
 
 -- of a row that is narrow
 pub failing : (m : ℕ) (cs : List ℕ) (row mask : ℕ) → Narrow m cs row mask → (b : Base) (e x : ℕ) (trues falses : List ℕ) (r : ℕ) → Unsteady e cs row trues falses r → LinksShow trues falses (λ j. given b (listed (has_bit mask) 0 m) (x + j)) → Failing (steady_at b e m cs row) x r

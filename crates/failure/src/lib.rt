@@ -8,8 +8,7 @@ ghost use Rattle.laws.specs.Listed.{listed};
 ghost use Rattle.conditions.specs.Numbers.{assign};
 ghost use Rattle.conditions.specs.Failure.{is_false};
 ghost use Rattle.reach.specs.Masks.{has_bit};
-ghost use Rattle.lanes.specs.Lanes.{LinksShow};
-ghost use Rattle.failure.specs.Blocks.{given, numbers, first_at, Unsteady};
+ghost use Rattle.failure.specs.Blocks.{numbers, first_at, Unsteady};
 ghost use Rattle.failure.specs.Failure.{failure_of, Narrow};
 
 use lanes::LinkLanes;
@@ -23,30 +22,12 @@ pub struct Failure {
 }
 
 // The lanes at which the condition is true, and not with every false link unset.
-fn unsteady(evaluation: u8, cs: &[u8], row: usize, links: &LinkLanes) -> u64
+fn unsteady(evaluation: u8, cs: &[u8], row: usize, links: LinkLanes) -> u64
     requires { (row * 4 + 4 ≤ length cs.now) × (row < 256) }
-    ensures { Unsteady evaluation cs.now row links.now.trues links.now.falses result }
+    ensures { Unsteady evaluation cs.now row links.entry.trues.now links.entry.falses.now result }
 {
     let top = lanes::value(evaluation, cs, row, links);
     top.trues & !top.kept
-}
-
-// The link values of 64 numbers.
-#[tactic(auto, unfolding(words::specs::Words::base_of))]
-fn links_of(base: Base, mask: u64, m: usize, x: usize) -> LinkLanes
-    requires { (m ≤ 64) × ((length (listed (has_bit mask) 0 m) ≤ 8) × ((x % 64 ≡ 0) × (x ≤ 6561))) }
-    ensures { LinksShow result.trues result.falses (λ j. given base (listed (has_bit mask) 0 m) (x + j)) }
-{
-    match base {
-        Base::Two => LinkLanes {
-            trues: words::words(Base::Two, 1, mask, m, x),
-            falses: words::words(Base::Two, 0, mask, m, x),
-        },
-        Base::Three => LinkLanes {
-            trues: words::words(Base::Three, 2, mask, m, x),
-            falses: words::words(Base::Three, 1, mask, m, x),
-        },
-    }
 }
 
 // The smallest number in a base at which the condition is not steady.
@@ -62,9 +43,15 @@ fn first_unsteady(
     ensures { MatchOption result (numbers base m cs.now row ≡ first_at base evaluation m cs.now row) (λ x. (x < numbers base m cs.now row) × (x ≡ first_at base evaluation m cs.now row)) }
 {
     let all = base.power(reach::width(mask));
+    let digit = base.true_digit();
     for x in (0..all).step_by(64) {
-        let links = links_of(base, mask, m, x);
-        let word = unsteady(evaluation, cs, row, &links);
+        let trues = words::words(base, digit, mask, m, x);
+        let falses = words::words(base, digit - 1, mask, m, x);
+        let links = LinkLanes {
+            trues: &trues,
+            falses: &falses,
+        };
+        let word = unsteady(evaluation, cs, row, links);
         if word != 0 {
             let s = x + u64::trailing_zeros(word) as usize;
             if all <= s {

@@ -7,7 +7,7 @@ ghost use Rattle.conditions.specs.Operators.{AND, EQ};
 ghost use Rattle.sheet.specs.Table.{condition_row_at};
 ghost use Rattle.rows.specs.Conditions.{operator_of};
 ghost use Rattle.evaluate.specs.Values.{meant};
-ghost use Rattle.lanes.specs.Lanes.{turned, link_lanes, Operated, Stepped, Valued};
+ghost use Rattle.lanes.specs.Lanes.{turned, lanes_at, link_lanes, Operated, Stepped, Valued};
 
 use evaluate::Evaluation;
 use rows::condition::{ConditionRow, Operator, condition_row};
@@ -42,9 +42,9 @@ const UNSET: Lanes = Lanes {
 
 // For each link the lanes at which it is true, and those at which it is false.
 #[derive(Clone, Copy)]
-pub struct LinkLanes {
-    pub trues: [u64; 64],
-    pub falses: [u64; 64],
+pub struct LinkLanes<'a> {
+    pub trues: &'a [u64; 64],
+    pub falses: &'a [u64; 64],
 }
 
 impl Lanes {
@@ -60,11 +60,11 @@ impl Lanes {
     }
 }
 
-impl LinkLanes {
+impl LinkLanes<'_> {
     // What is kept of a link is what is true; a link from 64 on is unset.
     #[tactic(auto, unfolding(crate::specs::Lanes::link_lanes))]
-    fn link(&self, l: u8) -> Lanes
-        ensures { result ≡ link_lanes self.now.trues self.now.falses l }
+    fn link(self, l: u8) -> Lanes
+        ensures { result ≡ link_lanes self.entry.trues.now self.entry.falses.now l }
     {
         if 64 <= l {
             return UNSET;
@@ -119,36 +119,55 @@ fn operate(evaluation: Evaluation, o: Operator, a: Lanes, b: Lanes) -> Lanes
     }
 }
 
-// The value of a row in each lane, from those of other rows.
+fn of_row(trues: &[u64; 256], falses: &[u64; 256], kept: &[u64; 256], row: u8) -> Lanes
+    ensures { result ≡ lanes_at trues.now falses.now kept.now row }
+{
+    Lanes {
+        trues: trues[row as usize],
+        falses: falses[row as usize],
+        kept: kept[row as usize],
+    }
+}
+
+// The value of a row in each lane, from those of other rows. These are three arrays: one of 256 lanes takes twice the instructions for a verdict, since it is cleared as a whole before it is filled.
 fn step(
     evaluation: Evaluation,
     cs: &[u8],
     row: usize,
-    links: &LinkLanes,
-    table: &[Lanes; 256],
+    links: LinkLanes,
+    trues: &[u64; 256],
+    falses: &[u64; 256],
+    kept: &[u64; 256],
 ) -> Lanes
     requires { row * 4 + 4 ≤ length cs.now }
-    ensures { Stepped (meant evaluation) (condition_row_at cs.now row) links.now.trues links.now.falses table.now result }
+    ensures { Stepped (meant evaluation) (condition_row_at cs.now row) links.entry.trues.now links.entry.falses.now trues.now falses.now kept.now result }
 {
     match condition_row(cs, row) {
         ConditionRow::False => FALSE,
         ConditionRow::True => TRUE,
         ConditionRow::Link(l) => links.link(l),
         ConditionRow::Operation(o, a, b) => {
-            operate(evaluation, o, table[a as usize], table[b as usize])
+            let x = of_row(trues, falses, kept, a);
+            let y = of_row(trues, falses, kept, b);
+            operate(evaluation, o, x, y)
         }
     }
 }
 
 // The value of a row in each lane. A row that is not there yet is false.
-pub fn value(evaluation: u8, cs: &[u8], row: usize, links: &LinkLanes) -> Lanes
+pub fn value(evaluation: u8, cs: &[u8], row: usize, links: LinkLanes) -> Lanes
     requires { (row * 4 + 4 ≤ length cs.now) × (row < 256) }
-    ensures { Valued evaluation cs.now row links.now.trues links.now.falses result }
+    ensures { Valued evaluation cs.now row links.entry.trues.now links.entry.falses.now result }
 {
     let meant = Evaluation::of(evaluation);
-    let mut table = [FALSE; 256];
+    let mut trues = [0; 256];
+    let mut falses = [ALL; 256];
+    let mut kept = [ALL; 256];
     for i in 0..row {
-        table[i] = step(meant, cs, i, links, &table);
+        let x = step(meant, cs, i, links, &trues, &falses, &kept);
+        trues[i] = x.trues;
+        falses[i] = x.falses;
+        kept[i] = x.kept;
     }
-    step(meant, cs, row, links, &table)
+    step(meant, cs, row, links, &trues, &falses, &kept)
 }

@@ -25,6 +25,18 @@ pub enum Base {
 }
 
 impl Base {
+    // The digit of a link that is true; that of one that is false is one less.
+    #[tactic(auto, unfolding(crate::specs::Words::base_of))]
+    pub fn true_digit(self) -> usize
+        ensures digit { result + 1 ≡ base_of self }
+        ensures positive { 0 < result }
+    {
+        match self {
+            Base::Two => 1,
+            Base::Three => 2,
+        }
+    }
+
     // The base to the q.
     #[tactic(auto, unfolding(crate::specs::Words::base_of))]
     pub fn power(self, q: usize) -> usize

@@ -5,16 +5,16 @@ use Rattle.lanes.proofs.step.Goals as goal
 
 pub returns-in-False : goal.returns-in-False
 unfolding row_of
-returns-in-False c = rw (← c.in-False.ensures) (stepped_false _ _ _ _)
+returns-in-False c = rw (← c.in-False.ensures) (stepped_false _ _ _ _ _ _)
 
 pub returns-in-True : goal.returns-in-True
 unfolding row_of
-returns-in-True c = rw (← c.in-True.ensures) (stepped_true _ _ _ _)
+returns-in-True c = rw (← c.in-True.ensures) (stepped_true _ _ _ _ _ _)
 
 pub returns-in-Link : goal.returns-in-Link
 unfolding row_of
-returns-in-Link c = rw (← c.in-Link.ensures) (stepped_link _ _ _ _ _ _ c.link.ensures)
+returns-in-Link c = rw (← c.in-Link.ensures) (stepped_link _ _ _ _ _ _ _ _ c.link.ensures)
 
 pub returns-in-Operation : goal.returns-in-Operation
 unfolding row_of
-returns-in-Operation c = rw (← c.in-Operation.ensures) (stepped_op _ _ _ _ _ _ _ _ (omega arith) (omega arith) c.operate.ensures)
+returns-in-Operation c = rw (← c.in-Operation.ensures) (stepped_op _ _ _ _ _ _ _ _ _ _ _ _ (omega arith) (omega arith) c.of_row-x.ensures c.of_row-y.ensures c.operate.ensures)
