@@ -30,7 +30,8 @@ fn unsteady(evaluation: u8, cs: &[u8], row: usize, links: LinkLanes) -> u64
     top.trues & !top.kept
 }
 
-// The smallest number in a base at which the condition is not steady.
+// The smallest number in a base at which the condition is not steady. It is inlined, so that base and digits are constants.
+#[inline(always)]
 fn first_unsteady(
     base: Base,
     evaluation: u8,
