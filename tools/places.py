@@ -56,7 +56,7 @@ points = {
     "5 table: head, terms and conditions together": together(r"h: Head, ts: &\[u8\], cs: &\[u8\]"),
     "5 terms: rows and their number together": together(r"\bts: &\[u8\], n: usize|\bn: usize, ts: &\[u8\]"),
     "5 page: a buffer and a place in it together": together(r"out: &mut \[u8\], at: usize"),
-    "5 clause: the table is well formed, the rows are a tree": lines(r"WellFormed \(table_of|RowsLent ts\.now|After(Rows|Conditions) \(table_of"),
+    "5 clause: the table is well formed, the rows are a tree": lines(r"WellFormed \((table_of|lent_table)|RowsLent ts\.now|After(Rows|Conditions) \((table_of|lent_table)"),
     "6 parallel arrays": together(r"trues: &\[u64|lt: &\[u64"),
     "6 buffers with a length beside": together(r"\bmarks: &\[u8; 256\], n: usize|from: &\[u8\], count: usize|flags: &\[u8; 256\], n: usize|flags: &\[bool; 256\], n: usize"),
     "7 a number picks the rule": lines(r"\basked ==|const (REACHED|HELD|LIVE)|if thirds"),

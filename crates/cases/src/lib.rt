@@ -5,7 +5,7 @@
 
 ghost use Rattle.std.specs.Prelude.{◌≤◌};
 
-use sheet::{Head, Refusal};
+use sheet::{Head, Refusal, Table};
 use state::{State, StepKind};
 use std::io::Read;
 
@@ -24,14 +24,6 @@ pub struct Asked {
     pub call: u8,
     pub argument: usize,
     pub room: usize,
-}
-
-// The numbers of a table, its terms and its conditions.
-#[derive(Clone, Copy)]
-pub struct Table<'a> {
-    pub head: Head,
-    pub terms: &'a [u8],
-    pub conditions: &'a [u8],
 }
 
 // A word and two values, 0 where it has none.

@@ -10,7 +10,7 @@ ghost use Rattle.sheet.specs.Rules.{judged};
 ghost use Rattle.sheet.specs.Sheet.{number_at, entry_ok, in_fours, contents, contents_ok, head_of, settings_of, terms_of, conditions_of, table_in, front, size_of, sheet_of};
 ghost use Rattle.codec.specs.Answers.{read_of, part_of, write_of, written_of, Framed, InRange};
 
-use sheet::{Head, Refusal};
+use sheet::{Head, Refusal, Table};
 
 // A number of two bytes, the lower first.
 fn two(s: &[u8], at: usize) -> usize
@@ -111,8 +111,11 @@ fn judge_parts(s: &[u8]) -> Result<(), Refusal>
     requires { Framed s.now }
     ensures { result ≡ judged (table_in s.now) }
 {
-    let h = head_of(s);
-    judge::judge(h, terms_in(s), conditions_in(s))
+    judge::judge(&Table {
+        head: head_of(s),
+        terms: terms_in(s),
+        conditions: conditions_in(s),
+    })
 }
 
 // The head of a sheet, or its refusal.
@@ -202,7 +205,7 @@ fn front(h: Head) -> [u8; 18]
     ]
 }
 
-// The first bytes of one slice into another, from a place on.
+// The first bytes of one slice into another, from a place on: the library's copy, said by `paste`, of which the bytes of a table are three.
 fn copy(out: &mut [u8], at: usize, from: &[u8], count: usize)
     requires { (at + count ≤ length out.old) × (count ≤ length from.now) }
     ensures { out.new ≡ paste out.old at from.now count }
@@ -211,30 +214,30 @@ fn copy(out: &mut [u8], at: usize, from: &[u8], count: usize)
 }
 
 // The bytes of a table to a lent buffer, and how many; a buffer that is too short is left as it is. Nothing is judged.
-pub fn lay(h: Head, ts: &[u8], cs: &[u8], out: &mut [u8]) -> usize
-    requires { InRange h ts.now cs.now }
-    ensures { (result ≡ size_of h) × (out.new ≡ written (sheet_of h ts.now cs.now) out.old) }
+pub fn lay(t: &Table, out: &mut [u8]) -> usize
+    requires { InRange t.now.head t.now.terms.now t.now.conditions.now }
+    ensures { (result ≡ size_of t.now.head) × (out.new ≡ written (sheet_of t.now.head t.now.terms.now t.now.conditions.now) out.old) }
 {
-    let t = 4 * h.n;
-    let c = 4 * h.k;
-    let size = 18 + (t + c);
+    let n = 4 * t.head.n;
+    let k = 4 * t.head.k;
+    let size = 18 + (n + k);
     if out.len() < size {
         return size;
     }
-    let first = front(h);
+    let first = front(t.head);
     copy(out, 0, &first, 18);
-    copy(out, 18, ts, t);
-    copy(out, 18 + t, cs, c);
+    copy(out, 18, t.terms, n);
+    copy(out, 18 + n, t.conditions, k);
     size
 }
 
 // The bytes of a table, and how many; or its refusal, or 12 with the size that is needed.
-pub fn write(h: Head, ts: &[u8], cs: &[u8], out: &mut [u8]) -> Result<usize, Refusal>
-    ensures { (result ≡ write_of h ts.now cs.now (length out.old)) × (out.new ≡ written_of h ts.now cs.now out.old) }
+pub fn write(t: &Table, out: &mut [u8]) -> Result<usize, Refusal>
+    ensures { (result ≡ write_of t.now.head t.now.terms.now t.now.conditions.now (length out.old)) × (out.new ≡ written_of t.now.head t.now.terms.now t.now.conditions.now out.old) }
 {
-    judge::judge(h, ts, cs)?;
+    judge::judge(t)?;
     let room = out.len();
-    let size = lay(h, ts, cs, out);
+    let size = lay(t, out);
     if room < size {
         return Err(Refusal {
             number: 12,

@@ -8,7 +8,7 @@ ghost use Rattle.laws.specs.Sums.{count};
 ghost use Rattle.calculus.specs.Process.{pick};
 ghost use Rattle.steps.specs.Marks.{stand, open_branches};
 ghost use Rattle.steps.specs.InFront.{waits_by, passed_by};
-ghost use Rattle.sheet.specs.Table.{table_of, row_at};
+ghost use Rattle.sheet.specs.Table.{lent_table, row_at};
 ghost use Rattle.sheet.specs.Accepted.{WellFormed, RowsLent};
 ghost use Rattle.rows.specs.Term.{row_of};
 ghost use Rattle.flags.specs.Flags.{flagged, Shows};
@@ -22,7 +22,7 @@ ghost use Rattle.collect.specs.Tops.{top_branch, top_by};
 ghost use Rattle.collect.specs.Kept.{kept_by, new_bytes, new_terms, Keeps};
 
 use rows::term::TermRow;
-use sheet::Head;
+use sheet::{Head, Table};
 use state::State;
 
 // The top of an ACT, OUT or JOIN: of a passed one its child's.
@@ -173,17 +173,24 @@ fn compacted_by(evaluation: u8) -> u8
 }
 
 // The bytes of the compacted sheet to a lent buffer, and how many; a buffer that is too short is left as it is.
-pub fn write(h: Head, ts: &[u8], cs: &[u8], s: State, out: &mut [u8]) -> usize
-    requires { WellFormed (table_of h ts.now cs.now) }
-    ensures { (result ≡ length (compacted_sheet (table_of h ts.now cs.now) s)) × (out.new ≡ written (compacted_sheet (table_of h ts.now cs.now) s) out.old) }
+pub fn write(t: &Table, s: State, out: &mut [u8]) -> usize
+    requires { WellFormed (lent_table t.now) }
+    ensures { (result ≡ length (compacted_sheet (lent_table t.now) s)) × (out.new ≡ written (compacted_sheet (lent_table t.now) s) out.old) }
 {
     let mut rows = [0; 1024];
-    let count = kept_rows(h, ts, s, &mut rows);
+    let count = kept_rows(t.head, t.terms, s, &mut rows);
     let head = Head {
-        evaluation: compacted_by(h.evaluation),
-        m: h.m,
+        evaluation: compacted_by(t.head.evaluation),
+        m: t.head.m,
         n: count,
-        k: h.k,
+        k: t.head.k,
     };
-    codec::lay(head, &rows, cs, out)
+    codec::lay(
+        &Table {
+            head,
+            terms: &rows,
+            conditions: t.conditions,
+        },
+        out,
+    )
 }

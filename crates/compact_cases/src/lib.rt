@@ -2,19 +2,23 @@
 
 #![tactic(auto)]
 
-use cases::{Cases, Table, first, same_state, told};
+use cases::{Cases, first, same_state, told};
+use sheet::Table;
 use state::State;
 use std::io::Read;
 
 // A sheet and a state, compacted, come out as they went in.
 fn made_again(sheet: &[u8], s: State) -> bool {
-    let Ok(h) = sheet_engine::read_sheet(sheet) else {
+    let Ok(head) = sheet_engine::read_sheet(sheet) else {
         return false;
     };
-    let terms = sheet_engine::terms_part(sheet);
-    let conditions = sheet_engine::conditions_part(sheet);
+    let t = Table {
+        head,
+        terms: sheet_engine::terms_part(sheet),
+        conditions: sheet_engine::conditions_part(sheet),
+    };
     let mut buffer = [cases::BLANK; cases::SPACE];
-    let again = sheet_engine::compact(s, h, terms, conditions, &mut buffer);
+    let again = sheet_engine::compact(s, &t, &mut buffer);
     match again.answer {
         Ok(size) => (first(&buffer, size) == sheet) & same_state(again.state, s),
         Err(_) => false,
@@ -24,7 +28,7 @@ fn made_again(sheet: &[u8], s: State) -> bool {
 fn compact_agrees(case: &mut Cases<impl Read>, s: State, t: Table, room: usize) -> Option<bool> {
     let mut buffer = [cases::BLANK; cases::SPACE];
     let out = cases::lend(&mut buffer, room);
-    let made = sheet_engine::compact(s, t.head, t.terms, t.conditions, out);
+    let made = sheet_engine::compact(s, &t, out);
     let answer = told(made.answer);
     let expected = case.size()?;
     let same = case.buffer_agrees(out)?;

@@ -3,7 +3,7 @@
 
 #![tactic(auto)]
 
-use sheet::{Head, Refusal};
+use sheet::{Head, Refusal, Table};
 use sheet_engine::Stands;
 use state::{State, StepKind};
 use std::io;
@@ -19,14 +19,6 @@ struct Asked {
     made: bool,
     mode: u8,
     row: u8,
-}
-
-// The parts of a table.
-#[derive(Clone, Copy)]
-struct Table<'a> {
-    head: Head,
-    terms: &'a [u8],
-    conditions: &'a [u8],
 }
 
 fn refused_seen(refusal: Refusal) -> Seen {
@@ -105,7 +97,7 @@ fn standing_seen(answer: Result<Stands, Refusal>, out: &[u8; 2066], at: u8) -> S
 
 // The state of a start; that of zeros where it is refused.
 fn started(mode: u8, t: Table) -> State {
-    match sheet_engine::start(t.head, t.terms, t.conditions, mode) {
+    match sheet_engine::start(&t, mode) {
         Ok(state) => state,
         Err(_) => state::fresh(0),
     }
@@ -113,7 +105,7 @@ fn started(mode: u8, t: Table) -> State {
 
 // The size of the compacted sheet, its byte at a place, and what `after_seen` shows of the state there, in one number.
 fn compact_seen(s: State, t: Table, at: u8, out: &mut [u8; 2066]) -> Seen {
-    let made = sheet_engine::compact(s, t.head, t.terms, t.conditions, out);
+    let made = sheet_engine::compact(s, &t, out);
     let [size, byte, _] = size_seen(made.answer, out, at);
     let [counts, mark, link] = after_seen(&made.state, at);
     [size, byte, counts ^ mark ^ link]
@@ -121,25 +113,22 @@ fn compact_seen(s: State, t: Table, at: u8, out: &mut [u8; 2066]) -> Seen {
 
 // A letter is the input's own, and matched here alone.
 fn called(asked: Asked, s: State, t: Table, out: &mut [u8; 2066]) -> Seen {
-    let h = t.head;
-    let ts = t.terms;
-    let cs = t.conditions;
     let at = asked.row;
     let row = at as usize;
     match asked.call {
-        b'j' => judged_seen(sheet_engine::judge_table(h, ts, cs)),
-        b'w' => size_seen(sheet_engine::write_sheet(h, ts, cs, out), out, at),
-        b'v' => verdict_seen(sheet_engine::give_verdict(h, ts, cs)),
+        b'j' => judged_seen(sheet_engine::judge_table(&t)),
+        b'w' => size_seen(sheet_engine::write_sheet(&t, out), out, at),
+        b'v' => verdict_seen(sheet_engine::give_verdict(&t)),
         b's' => after_seen(&started(asked.mode, t), at),
         b'q' => [sheet_engine::acts_left(s) as usize, 0, 0],
         b'u' => [sheet_engine::links_unset(s) as usize, 0, 0],
-        b'l' => size_seen(sheet_engine::list_steps(s, h, ts, cs, out), out, at),
-        b'h' => standing_seen(sheet_engine::standing(s, h, ts, cs, out), out, at),
-        b'a' => size_seen(sheet_engine::waits_for(s, h, ts, cs, out), out, at),
-        b'k' => kind_seen(sheet_engine::step_kind(s, h, ts, cs, row)),
+        b'l' => size_seen(sheet_engine::list_steps(s, &t, out), out, at),
+        b'h' => standing_seen(sheet_engine::standing(s, &t, out), out, at),
+        b'a' => size_seen(sheet_engine::waits_for(s, &t, out), out, at),
+        b'k' => kind_seen(sheet_engine::step_kind(s, &t, row)),
         b'c' => compact_seen(s, t, at, out),
-        b'i' => after_seen(&lent::step_lent(s, h, ts, cs, row).state, at),
-        _ => after_seen(&sheet_engine::take_step(s, h, ts, cs, row).state, at),
+        b'i' => after_seen(&lent::step_lent(s, &t, row).state, at),
+        _ => after_seen(&sheet_engine::take_step(s, &t, row).state, at),
     }
 }
 
@@ -147,7 +136,7 @@ fn called(asked: Asked, s: State, t: Table, out: &mut [u8; 2066]) -> Seen {
 fn after(s: State, t: Table, rows: &[u8]) -> State {
     let mut state = s;
     for row in rows {
-        state = sheet_engine::take_step(state, t.head, t.terms, t.conditions, *row as usize).state;
+        state = sheet_engine::take_step(state, &t, *row as usize).state;
     }
     state
 }

@@ -2,7 +2,8 @@
 
 #![tactic(auto)]
 
-use cases::{Cases, Refused, Table, told};
+use cases::{Cases, Refused, told};
+use sheet::Table;
 use state::State;
 use std::io::Read;
 
@@ -20,7 +21,7 @@ fn run(fresh: State, t: Table, rows: &[u8], counts: &[u8]) -> (Result<(), Refuse
     let mut pairs = counts.chunks_exact(2);
     let mut agree = pairs.next().is_some_and(|pair| counts_agree(s, pair));
     for row in rows {
-        let next = sheet_engine::take_step(s, t.head, t.terms, t.conditions, *row as usize);
+        let next = sheet_engine::take_step(s, &t, *row as usize);
         if let Err(refused) = told(next.answer) {
             return (Err(refused), agree & pairs.next().is_none());
         }
@@ -32,7 +33,7 @@ fn run(fresh: State, t: Table, rows: &[u8], counts: &[u8]) -> (Result<(), Refuse
 
 // The run from the start, which may be refused.
 fn started(mode: u8, t: Table, rows: &[u8], counts: &[u8]) -> (Result<(), Refused>, bool) {
-    match told(sheet_engine::start(t.head, t.terms, t.conditions, mode)) {
+    match told(sheet_engine::start(&t, mode)) {
         Ok(fresh) => run(fresh, t, rows, counts),
         Err(refused) => (Err(refused), counts.is_empty()),
     }

@@ -2,14 +2,15 @@
 
 #![tactic(auto)]
 
-use cases::{Cases, Table, first};
+use cases::{Cases, first};
+use sheet::Table;
 use state::{State, StepKind};
 use std::io::Read;
 
 // The row with the lowest step.
 fn lowest(s: State, t: Table) -> Option<u8> {
     let mut rows = [0; 256];
-    match sheet_engine::list_steps(s, t.head, t.terms, t.conditions, &mut rows) {
+    match sheet_engine::list_steps(s, &t, &mut rows) {
         Ok(0) | Err(_) => None,
         Ok(_) => Some(rows[0]),
     }
@@ -17,13 +18,13 @@ fn lowest(s: State, t: Table) -> Option<u8> {
 
 // What is done from a start in a mode, by no more steps than a sheet has rows: the activities, as the digits of a number; nothing where a call is refused.
 fn done(mode: u8, t: Table) -> Option<usize> {
-    let mut s = sheet_engine::start(t.head, t.terms, t.conditions, mode).ok()?;
+    let mut s = sheet_engine::start(&t, mode).ok()?;
     let mut done = 0;
     for _ in 0..256 {
         let Some(row) = lowest(s, t) else {
             return Some(done);
         };
-        let next = sheet_engine::take_step(s, t.head, t.terms, t.conditions, row as usize);
+        let next = sheet_engine::take_step(s, &t, row as usize);
         if let StepKind::Act(activity) = next.answer.ok()? {
             done = (done % 100) * 10 + activity as usize;
         }
@@ -47,7 +48,7 @@ fn shows(sheet: &[u8]) -> bool {
 fn damage_agrees(case: &mut Cases<impl Read>, t: Table, row: usize, room: usize) -> Option<bool> {
     let mut buffer = [cases::BLANK; cases::SPACE];
     let out = cases::lend(&mut buffer, room);
-    let answer = sheet_engine::damage_sheet(t.head, t.terms, t.conditions, row, out);
+    let answer = sheet_engine::damage_sheet(&t, row, out);
     let same = case.size_agrees(answer, out)?;
     Some(same & answer.map_or(true, |size| shows(first(out, size))))
 }

@@ -4,7 +4,7 @@
 
 ghost use Rattle.std.specs.Prelude.{◌≡◌, Ok, ◌+◌, ◌*◌, ◌<◌, ◌≤◌, length, get_or};
 ghost use Rattle.laws.specs.Listed.{written};
-ghost use Rattle.sheet.specs.Table.{table_of, row_at};
+ghost use Rattle.sheet.specs.Table.{lent_table, row_at};
 ghost use Rattle.sheet.specs.Rules.{refuse};
 ghost use Rattle.sheet.specs.Accepted.{WellFormed};
 ghost use Rattle.evaluate.specs.Values.{value_in};
@@ -15,7 +15,7 @@ ghost use Rattle.engine.specs.ByValue.{join_kind, row_kind, kind_from, step_from
 
 use evaluate::Values;
 use rows::term::{TermRow, term_row};
-use sheet::{Head, Refusal};
+use sheet::{Refusal, Table};
 use state::{State, StepKind};
 
 // Which step was taken, or why none; and the state after.
@@ -98,35 +98,35 @@ fn kind_from(
 }
 
 // The step of a row in a state, or 11 and the row.
-pub fn kind(h: Head, ts: &[u8], cs: &[u8], s: State, row: usize) -> Result<StepKind, Refusal>
-    requires { WellFormed (table_of h ts.now cs.now) }
-    ensures { result ≡ kind_at (table_of h ts.now cs.now) s row }
+pub fn kind(t: &Table, s: State, row: usize) -> Result<StepKind, Refusal>
+    requires { WellFormed (lent_table t.now) }
+    ensures { result ≡ kind_at (lent_table t.now) s row }
 {
-    let reached = front::ask(front::Question::Reached, ts, h.n, &s.marks);
-    let vals = evaluate::values(h.evaluation, cs, h.k, &s.links);
-    kind_from(ts, h.n, s.mode, &s.marks, &reached, &vals, row)
+    let reached = front::ask(front::Question::Reached, t.terms, t.head.n, &s.marks);
+    let vals = evaluate::values(t.head.evaluation, t.conditions, t.head.k, &s.links);
+    kind_from(t.terms, t.head.n, s.mode, &s.marks, &reached, &vals, row)
 }
 
 // The state after the step of a row.
-fn after(h: Head, ts: &[u8], cs: &[u8], s: State, row: usize, step: StepKind) -> State
-    requires { WellFormed (table_of h ts.now cs.now) × (Ok step ≡ kind_at (table_of h ts.now cs.now) s row) }
-    ensures { result ≡ stepped_of (table_of h ts.now cs.now) s row }
+fn after(t: &Table, s: State, row: usize, step: StepKind) -> State
+    requires { WellFormed (lent_table t.now) × (Ok step ≡ kind_at (lent_table t.now) s row) }
+    ensures { result ≡ stepped_of (lent_table t.now) s row }
 {
     match step {
-        StepKind::Clean => effects::dropped(h.m, ts, h.n, s, row),
-        _ => effects::taken(h.m, ts, h.n, s, row),
+        StepKind::Clean => effects::dropped(t.head.m, t.terms, t.head.n, s, row),
+        _ => effects::taken(t.head.m, t.terms, t.head.n, s, row),
     }
 }
 
 // Taking the step of a row; a row without one leaves the state as it is.
-pub fn take(h: Head, ts: &[u8], cs: &[u8], s: State, row: usize) -> Stepped
-    requires { WellFormed (table_of h ts.now cs.now) }
-    ensures { result ≡ taken_answer (table_of h ts.now cs.now) s row }
+pub fn take(t: &Table, s: State, row: usize) -> Stepped
+    requires { WellFormed (lent_table t.now) }
+    ensures { result ≡ taken_answer (lent_table t.now) s row }
 {
-    match kind(h, ts, cs, s, row) {
+    match kind(t, s, row) {
         Ok(step) => Stepped {
             answer: Ok(step),
-            state: after(h, ts, cs, s, row, step),
+            state: after(t, s, row, step),
         },
         Err(refusal) => Stepped {
             answer: Err(refusal),
@@ -169,15 +169,17 @@ fn show_steps(
 }
 
 // The rows that have a step to a lent buffer, and their number; a buffer that is too short is left as it is.
-pub fn list(h: Head, ts: &[u8], cs: &[u8], s: State, out: &mut [u8]) -> usize
-    requires { WellFormed (table_of h ts.now cs.now) }
-    ensures { (result ≡ length (listed_of (table_of h ts.now cs.now) s)) × (out.new ≡ written (listed_of (table_of h ts.now cs.now) s) out.old) }
+pub fn list(t: &Table, s: State, out: &mut [u8]) -> usize
+    requires { WellFormed (lent_table t.now) }
+    ensures { (result ≡ length (listed_of (lent_table t.now) s)) × (out.new ≡ written (listed_of (lent_table t.now) s) out.old) }
 {
-    let reached = front::ask(front::Question::Reached, ts, h.n, &s.marks);
-    let vals = evaluate::values(h.evaluation, cs, h.k, &s.links);
+    let reached = front::ask(front::Question::Reached, t.terms, t.head.n, &s.marks);
+    let vals = evaluate::values(t.head.evaluation, t.conditions, t.head.k, &s.links);
     let mut flags = [0; 256];
-    show_steps(&mut flags, ts, h.n, s.mode, &s.marks, &reached, &vals);
-    flags::fill(&flags, h.n, out)
+    show_steps(
+        &mut flags, t.terms, t.head.n, s.mode, &s.marks, &reached, &vals,
+    );
+    flags::fill(&flags, t.head.n, out)
 }
 
 // A JOIN in front.
@@ -228,28 +230,30 @@ fn stand_by(
 }
 
 // How a state stands, and the rows that it waits for.
-pub fn stand(h: Head, ts: &[u8], cs: &[u8], s: State, out: &mut [u8]) -> Standing
-    requires { WellFormed (table_of h ts.now cs.now) }
-    ensures { (result.steps ≡ length (listed_of (table_of h ts.now cs.now) s)) × ((result.waiting ≡ length (waiting_of (table_of h ts.now cs.now) s)) × (out.new ≡ written (waiting_of (table_of h ts.now cs.now) s) out.old)) }
+pub fn stand(t: &Table, s: State, out: &mut [u8]) -> Standing
+    requires { WellFormed (lent_table t.now) }
+    ensures { (result.steps ≡ length (listed_of (lent_table t.now) s)) × ((result.waiting ≡ length (waiting_of (lent_table t.now) s)) × (out.new ≡ written (waiting_of (lent_table t.now) s) out.old)) }
 {
-    let reached = front::ask(front::Question::Reached, ts, h.n, &s.marks);
-    let vals = evaluate::values(h.evaluation, cs, h.k, &s.links);
-    stand_by(ts, h.n, s.mode, &s.marks, &reached, &vals, out)
+    let reached = front::ask(front::Question::Reached, t.terms, t.head.n, &s.marks);
+    let vals = evaluate::values(t.head.evaluation, t.conditions, t.head.k, &s.links);
+    stand_by(t.terms, t.head.n, s.mode, &s.marks, &reached, &vals, out)
 }
 
 // For each row that a state waits for its link, or 255, to a lent buffer, and their number; a buffer that is too short is left as it is.
-pub fn wait(h: Head, ts: &[u8], cs: &[u8], s: State, out: &mut [u8]) -> usize
-    requires { WellFormed (table_of h ts.now cs.now) }
-    ensures { (result ≡ length (waiting_of (table_of h ts.now cs.now) s)) × (out.new ≡ written (awaits_of (table_of h ts.now cs.now) s) out.old) }
+pub fn wait(t: &Table, s: State, out: &mut [u8]) -> usize
+    requires { WellFormed (lent_table t.now) }
+    ensures { (result ≡ length (waiting_of (lent_table t.now) s)) × (out.new ≡ written (awaits_of (lent_table t.now) s) out.old) }
 {
-    let reached = front::ask(front::Question::Reached, ts, h.n, &s.marks);
-    let vals = evaluate::values(h.evaluation, cs, h.k, &s.links);
+    let reached = front::ask(front::Question::Reached, t.terms, t.head.n, &s.marks);
+    let vals = evaluate::values(t.head.evaluation, t.conditions, t.head.k, &s.links);
     let mut rows = [0; 256];
-    let found = stand_by(ts, h.n, s.mode, &s.marks, &reached, &vals, &mut rows);
+    let found = stand_by(
+        t.terms, t.head.n, s.mode, &s.marks, &reached, &vals, &mut rows,
+    );
     let size = found.waiting;
     if out.len() < size {
         return size;
     }
-    worth::tell(ts, cs, &s.links, &vals, &rows[..size], out);
+    worth::tell(t.terms, t.conditions, &s.links, &vals, &rows[..size], out);
     size
 }

@@ -6,12 +6,12 @@
 ghost use Rattle.std.specs.Prelude.{◌≡◌, ◌+◌, ◌*◌, ◌<◌, ◌≤◌, Ok, length, get_or};
 ghost use Rattle.laws.specs.Up.{Filled};
 ghost use Rattle.laws.specs.Checks.{place_of, checked};
-ghost use Rattle.sheet.specs.Table.{table_of, row_by, is_compacted};
+ghost use Rattle.sheet.specs.Table.{lent_table, row_by, is_compacted};
 ghost use Rattle.sheet.specs.Rules.{sized, condition_rule, condition_ok, child_ok, term_rule, conditions, terms, sourced, narrow, from3, from4, from5, from7, from13, from8, no, judged};
 ghost use Rattle.reach.specs.Masks.{mask_at};
 ghost use Rattle.judge.specs.Judge.{Lent, AfterConditions, Sound, bumped, Few, OneMore, Children, Misnamed, source_noted, wide_noted, join_noted, links_noted, wants_within, AfterRows};
 
-use sheet::{Head, Refusal};
+use sheet::{Refusal, Table};
 
 // 1: the numbers of rows, and the rows lent.
 fn sized_ok(n: usize, k: usize, lt: usize, lc: usize) -> bool
@@ -209,13 +209,13 @@ fn is_compacted(evaluation: u8) -> bool
 }
 
 // The lowest JOIN row that wants a link without a source. The rows are looked at again only if there is such a link.
-fn unsourced_join(h: Head, ts: &[u8], cs: &[u8], masks: &[u64; 256], notes: Notes) -> usize
-    requires { AfterRows (table_of h ts.now cs.now) masks.now notes }
-    ensures { result ≡ place_of (sourced (table_of h ts.now cs.now)) }
+fn unsourced_join(t: &Table, masks: &[u64; 256], notes: Notes) -> usize
+    requires { AfterRows (lent_table t.now) masks.now notes }
+    ensures { result ≡ place_of (sourced (lent_table t.now)) }
 {
-    let n = h.n;
+    let n = t.head.n;
     let linked = notes.linked;
-    if is_compacted(h.evaluation) {
+    if is_compacted(t.head.evaluation) {
         return n;
     }
     if reach::within(notes.wanted, linked) {
@@ -223,8 +223,8 @@ fn unsourced_join(h: Head, ts: &[u8], cs: &[u8], masks: &[u64; 256], notes: Note
     }
     for row in 0..n {
         let at = row * 4;
-        let kind = ts[at];
-        let a = ts[at + 1];
+        let kind = t.terms[at];
+        let a = t.terms[at + 1];
         if !wants_within(kind, a, masks, linked) {
             return row;
         }
@@ -233,11 +233,11 @@ fn unsourced_join(h: Head, ts: &[u8], cs: &[u8], masks: &[u64; 256], notes: Note
 }
 
 // Check 8, the last.
-fn judge_joins(h: Head, ts: &[u8], cs: &[u8], join: usize) -> Result<(), Refusal>
-    requires { join ≡ place_of (narrow h.m h.n ts.now cs.now) }
-    ensures { result ≡ checked no (Ok tt) (from8 (table_of h ts.now cs.now)) }
+fn judge_joins(t: &Table, join: usize) -> Result<(), Refusal>
+    requires { join ≡ place_of (narrow t.now.head.m t.now.head.n t.now.terms.now t.now.conditions.now) }
+    ensures { result ≡ checked no (Ok tt) (from8 (lent_table t.now)) }
 {
-    let end = h.n;
+    let end = t.head.n;
     if join < end {
         return Err(Refusal {
             number: 8,
@@ -248,36 +248,24 @@ fn judge_joins(h: Head, ts: &[u8], cs: &[u8], join: usize) -> Result<(), Refusal
 }
 
 // Check 13 and on.
-fn judge_wanted(
-    h: Head,
-    ts: &[u8],
-    cs: &[u8],
-    masks: &[u64; 256],
-    notes: Notes,
-) -> Result<(), Refusal>
-    requires { AfterRows (table_of h ts.now cs.now) masks.now notes }
-    ensures { result ≡ checked no (Ok tt) (from13 (table_of h ts.now cs.now)) }
+fn judge_wanted(t: &Table, masks: &[u64; 256], notes: Notes) -> Result<(), Refusal>
+    requires { AfterRows (lent_table t.now) masks.now notes }
+    ensures { result ≡ checked no (Ok tt) (from13 (lent_table t.now)) }
 {
-    let end = h.n;
-    let place = unsourced_join(h, ts, cs, masks, notes);
+    let end = t.head.n;
+    let place = unsourced_join(t, masks, notes);
     if place < end {
         return Err(Refusal { number: 13, place });
     }
-    judge_joins(h, ts, cs, notes.join)
+    judge_joins(t, notes.join)
 }
 
 // Check 7 and on.
-fn judge_sources(
-    h: Head,
-    ts: &[u8],
-    cs: &[u8],
-    masks: &[u64; 256],
-    notes: Notes,
-) -> Result<(), Refusal>
-    requires { AfterRows (table_of h ts.now cs.now) masks.now notes }
-    ensures { result ≡ checked no (Ok tt) (from7 (table_of h ts.now cs.now)) }
+fn judge_sources(t: &Table, masks: &[u64; 256], notes: Notes) -> Result<(), Refusal>
+    requires { AfterRows (lent_table t.now) masks.now notes }
+    ensures { result ≡ checked no (Ok tt) (from7 (lent_table t.now)) }
 {
-    let end = h.m;
+    let end = t.head.m;
     let link = u64::trailing_zeros(notes.twice) as usize;
     if link < end {
         return Err(Refusal {
@@ -285,16 +273,16 @@ fn judge_sources(
             place: link,
         });
     }
-    judge_wanted(h, ts, cs, masks, notes)
+    judge_wanted(t, masks, notes)
 }
 
 // The first row that is not named exactly once: 5 if a row from it on breaks its rule, else 6.
-fn judge_tree(h: Head, ts: &[u8], cs: &[u8], row: usize) -> Result<(), Refusal>
-    requires { Misnamed (table_of h ts.now cs.now) row }
-    ensures { result ≡ checked no (Ok tt) (from5 (table_of h ts.now cs.now)) }
+fn judge_tree(t: &Table, row: usize) -> Result<(), Refusal>
+    requires { Misnamed (lent_table t.now) row }
+    ensures { result ≡ checked no (Ok tt) (from5 (lent_table t.now)) }
 {
-    let end = h.n;
-    let place = bad_term(h.m, h.n, h.k, ts, row);
+    let end = t.head.n;
+    let place = bad_term(t.head.m, t.head.n, t.head.k, t.terms, row);
     if place < end {
         return Err(Refusal { number: 5, place });
     }
@@ -305,17 +293,11 @@ fn judge_tree(h: Head, ts: &[u8], cs: &[u8], row: usize) -> Result<(), Refusal>
 }
 
 // Check 5 and on, in one pass: the rows that name a row as a child lie before it, so its count is complete when the pass comes to it.
-fn judge_rows(
-    h: Head,
-    ts: &[u8],
-    cs: &[u8],
-    masks: &[u64; 256],
-    named: &mut [u16; 256],
-) -> Result<(), Refusal>
-    requires { AfterConditions (table_of h ts.now cs.now) masks.now × Children ts.now 0 named.old }
-    ensures { result ≡ checked no (Ok tt) (from5 (table_of h ts.now cs.now)) }
+fn judge_rows(t: &Table, masks: &[u64; 256], named: &mut [u16; 256]) -> Result<(), Refusal>
+    requires { AfterConditions (lent_table t.now) masks.now × Children t.now.terms.now 0 named.old }
+    ensures { result ≡ checked no (Ok tt) (from5 (lent_table t.now)) }
 {
-    let n = h.n;
+    let n = t.head.n;
     let mut notes = Notes {
         linked: 0,
         twice: 0,
@@ -325,14 +307,16 @@ fn judge_rows(
     for i in 0..n {
         let times = named[i];
         if times != 1 {
-            return judge_tree(h, ts, cs, i);
+            return judge_tree(t, i);
         }
         let at = i * 4;
-        let kind = ts[at];
-        let a = ts[at + 1];
-        let b = ts[at + 2];
-        let c = ts[at + 3];
-        if !term_row(h.m, n, h.k, i, kind, a as usize, b as usize, c as usize) {
+        let kind = t.terms[at];
+        let a = t.terms[at + 1];
+        let b = t.terms[at + 2];
+        let c = t.terms[at + 3];
+        if !term_row(
+            t.head.m, n, t.head.k, i, kind, a as usize, b as usize, c as usize,
+        ) {
             return Err(Refusal {
                 number: 5,
                 place: i,
@@ -341,66 +325,66 @@ fn judge_rows(
         notes = note_links(notes, n, i, kind, a, masks);
         note_children(named, kind, a, b, c);
     }
-    judge_sources(h, ts, cs, masks, notes)
+    judge_sources(t, masks, notes)
 }
 
 // Check 5 and on. Row 0 counts as named, being the root.
-fn judge_terms(h: Head, ts: &[u8], cs: &[u8], masks: &[u64; 256]) -> Result<(), Refusal>
-    requires { AfterConditions (table_of h ts.now cs.now) masks.now }
-    ensures { result ≡ checked no (Ok tt) (from5 (table_of h ts.now cs.now)) }
+fn judge_terms(t: &Table, masks: &[u64; 256]) -> Result<(), Refusal>
+    requires { AfterConditions (lent_table t.now) masks.now }
+    ensures { result ≡ checked no (Ok tt) (from5 (lent_table t.now)) }
 {
     let mut named = [0; 256];
     named[0] = 1;
-    judge_rows(h, ts, cs, masks, &mut named)
+    judge_rows(t, masks, &mut named)
 }
 
 // Check 4 and on.
-fn judge_conditions(h: Head, ts: &[u8], cs: &[u8]) -> Result<(), Refusal>
-    requires { Lent (table_of h ts.now cs.now) × (h.m ≤ 64) }
-    ensures { result ≡ checked no (Ok tt) (from4 (table_of h ts.now cs.now)) }
+fn judge_conditions(t: &Table) -> Result<(), Refusal>
+    requires { Lent (lent_table t.now) × (t.now.head.m ≤ 64) }
+    ensures { result ≡ checked no (Ok tt) (from4 (lent_table t.now)) }
 {
     let mut masks = [0; 256];
-    let end = h.k;
-    let place = bad_condition(h.m, h.k, cs, &mut masks);
+    let end = t.head.k;
+    let place = bad_condition(t.head.m, t.head.k, t.conditions, &mut masks);
     if place < end {
         return Err(Refusal { number: 4, place });
     }
-    judge_terms(h, ts, cs, &masks)
+    judge_terms(t, &masks)
 }
 
 // Check 3 and on.
-fn judge_settings(h: Head, ts: &[u8], cs: &[u8]) -> Result<(), Refusal>
-    requires { Lent (table_of h ts.now cs.now) }
-    ensures { result ≡ checked no (Ok tt) (from3 (table_of h ts.now cs.now)) }
+fn judge_settings(t: &Table) -> Result<(), Refusal>
+    requires { Lent (lent_table t.now) }
+    ensures { result ≡ checked no (Ok tt) (from3 (lent_table t.now)) }
 {
-    let e = h.evaluation;
+    let e = t.head.evaluation;
     if 3 < e {
         return Err(Refusal {
             number: 3,
             place: 16,
         });
     }
-    let m = h.m;
+    let m = t.head.m;
     if 64 < m {
         return Err(Refusal {
             number: 3,
             place: 17,
         });
     }
-    judge_conditions(h, ts, cs)
+    judge_conditions(t)
 }
 
 // The refusal of a table: checks 1 and 3 to 8, in order, with 13 before 8.
-pub fn judge(h: Head, ts: &[u8], cs: &[u8]) -> Result<(), Refusal>
-    ensures { result ≡ judged (table_of h ts.now cs.now) }
+pub fn judge(t: &Table) -> Result<(), Refusal>
+    ensures { result ≡ judged (lent_table t.now) }
 {
-    let lt = ts.len();
-    let lc = cs.len();
-    if !sized_ok(h.n, h.k, lt, lc) {
+    let lt = t.terms.len();
+    let lc = t.conditions.len();
+    if !sized_ok(t.head.n, t.head.k, lt, lc) {
         return Err(Refusal {
             number: 1,
             place: 0,
         });
     }
-    judge_settings(h, ts, cs)
+    judge_settings(t)
 }

@@ -11,58 +11,50 @@ ghost use Rattle.moves.specs.Standing.{waiting_of, awaits_of};
 ghost use Rattle.lines.specs.Lines.{refused_line, enabled_word, rows_line, waiting_line};
 ghost use Rattle.sheet_engine.specs.Answers.{start_checks};
 ghost use Rattle.printing.specs.Printed.{end_lines, step_lines, run_lines, sheet_lines, printed};
-ghost use Rattle.printing.specs.Parts.{the_table};
+ghost use Rattle.sheet.specs.Table.{lent_table};
 ghost use Rattle.promises.specs.Calls.{Accepted};
 
 use lines::Page;
-use sheet::{Head, Refusal};
+use sheet::{Refusal, Table};
 use sheet_engine::Stands;
 use state::State;
 
 // No output is longer: the verdict's line, 256 steps, the links, and 256 rows that are waited for, each with its link.
 pub const LONGEST: usize = 25 + 256 * 18 + 71 + 2056;
 
-// The parts of a table.
-#[derive(Clone, Copy)]
-struct Parts<'a> {
-    head: Head,
-    terms: &'a [u8],
-    conditions: &'a [u8],
-}
-
 // The rows that have a step.
-fn listed_line(out: &mut Page, s: State, t: Parts)
-    requires { Accepted (the_table t) s }
-    ensures { Puts out.old out.new (rows_line enabled_word (listed_of (the_table t.entry) s)) }
+fn listed_line(out: &mut Page, s: State, t: &Table)
+    requires { Accepted (lent_table t.now) s }
+    ensures { Puts out.old out.new (rows_line enabled_word (listed_of (lent_table t.now) s)) }
 {
     let mut rows = [0; 256];
-    match sheet_engine::list_steps(s, t.head, t.terms, t.conditions, &mut rows) {
+    match sheet_engine::list_steps(s, t, &mut rows) {
         Ok(count) => out.enabled_line(&rows[..count]),
         Err(refusal) => out.refused_line(refusal),
     }
 }
 
 // The rows that are waited for, each with its link.
-fn waited_line(out: &mut Page, s: State, t: Parts, rows: &[u8])
-    requires { Accepted (the_table t) s × (rows.now ≡ waiting_of (the_table t) s) }
-    ensures { Puts out.old out.new (waiting_line (waiting_of (the_table t.entry) s) (awaits_of (the_table t.entry) s)) }
+fn waited_line(out: &mut Page, s: State, t: &Table, rows: &[u8])
+    requires { Accepted (lent_table t.now) s × (rows.now ≡ waiting_of (lent_table t.now) s) }
+    ensures { Puts out.old out.new (waiting_line (waiting_of (lent_table t.now) s) (awaits_of (lent_table t.now) s)) }
 {
     let mut links = [0; 256];
-    match sheet_engine::waits_for(s, t.head, t.terms, t.conditions, &mut links) {
+    match sheet_engine::waits_for(s, t, &mut links) {
         Ok(count) => out.waiting_line(rows, &links[..count]),
         Err(refusal) => out.refused_line(refusal),
     }
 }
 
 // The links, and how the state stands.
-fn end_lines(out: &mut Page, s: State, t: Parts)
-    requires { Accepted (the_table t) s }
-    ensures { Puts out.old out.new (end_lines (the_table t.entry) s) }
+fn end_lines(out: &mut Page, s: State, t: &Table)
+    requires { Accepted (lent_table t.now) s }
+    ensures { Puts out.old out.new (end_lines (lent_table t.now) s) }
 {
     let links = s.links;
     out.links_line(t.head.m, &links);
     let mut rows = [0; 256];
-    match sheet_engine::standing(s, t.head, t.terms, t.conditions, &mut rows) {
+    match sheet_engine::standing(s, t, &mut rows) {
         Ok(Stands::Enabled) => listed_line(out, s, t),
         Ok(Stands::Finished) => out.finished_line(),
         Ok(Stands::Waiting(count)) => waited_line(out, s, t, &rows[..count]),
@@ -71,13 +63,13 @@ fn end_lines(out: &mut Page, s: State, t: Parts)
 }
 
 // The steps, each on its line, up to the first that is refused; then the end.
-fn step_lines(out: &mut Page, s: State, t: Parts, rows: &[u8])
-    requires { Accepted (the_table t) s }
-    ensures { Puts out.old out.new (step_lines (the_table t.entry) s rows.now) }
+fn step_lines(out: &mut Page, s: State, t: &Table, rows: &[u8])
+    requires { Accepted (lent_table t.now) s }
+    ensures { Puts out.old out.new (step_lines (lent_table t.now) s rows.now) }
 {
     let mut state = s;
     for row in rows {
-        let next = sheet_engine::take_step(state, t.head, t.terms, t.conditions, *row as usize);
+        let next = sheet_engine::take_step(state, t, *row as usize);
         match next.answer {
             Ok(step) => {
                 out.step_line(*row, step);
@@ -93,12 +85,12 @@ fn step_lines(out: &mut Page, s: State, t: Parts, rows: &[u8])
 }
 
 // The verdict and the steps of a sheet that is accepted, in a mode.
-fn run_lines(out: &mut Page, mode: u8, t: Parts, rows: &[u8])
-    ensures { Puts out.old out.new (checked refused_line (run_lines (the_table t.entry) mode rows.now) (start_checks (the_table t.entry) mode)) }
+fn run_lines(out: &mut Page, mode: u8, t: &Table, rows: &[u8])
+    ensures { Puts out.old out.new (checked refused_line (run_lines (lent_table t.now) mode rows.now) (start_checks (lent_table t.now) mode)) }
 {
-    match sheet_engine::start(t.head, t.terms, t.conditions, mode) {
+    match sheet_engine::start(t, mode) {
         Ok(state) => {
-            out.verdict_line(sheet_engine::give_verdict(t.head, t.terms, t.conditions));
+            out.verdict_line(sheet_engine::give_verdict(t));
             step_lines(out, state, t, rows)
         }
         Err(refusal) => out.refused_line(refusal),
@@ -113,12 +105,12 @@ fn sheet_lines(out: &mut Page, mode: u8, sheet: &[u8], rows: &[u8])
         Ok(head) => {
             let terms = sheet_engine::terms_part(sheet);
             let conditions = sheet_engine::conditions_part(sheet);
-            let t = Parts {
+            let t = Table {
                 head,
                 terms,
                 conditions,
             };
-            run_lines(out, mode, t, rows)
+            run_lines(out, mode, &t, rows)
         }
         Err(refusal) => out.refused_line(refusal),
     }

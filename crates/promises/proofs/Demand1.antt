@@ -53,7 +53,7 @@ use Rattle.sheet_engine.specs.contracts.damage_sheet as damage_sheet_contract
 use Rattle.laws.specs.Checks.{Check}
 use Rattle.laws.specs.Listed.{written}
 use Rattle.sheet.specs.declared.Head.{Head}
-use Rattle.sheet.specs.Table.{Table, table_of}
+use Rattle.sheet.specs.Table.{Table, table_of, lent_table}
 use Rattle.sheet.specs.Rules.{table_checks, no, judged}
 use Rattle.sheet.specs.Sheet.{sheet_of, size_of, head_of}
 use Rattle.codec.specs.Answers.{read_of, part_of, write_checks, write_of, written_of}
@@ -235,10 +235,10 @@ module _ {M : Type 1} {𝓤 : Ura M} (𝓛 : Logic 𝓤) (at_mem : Memory → SP
   was = a.0.now
 
   abbrev its_table : Table
-  its_table = table_of a.1.0 a.1.1.0.now a.1.1.1.0.now
+  its_table = lent_table a.1.0.now
 
   abbrev asked : ℕ
-  asked = a.1.1.1.1.0
+  asked = a.1.1.0
 
   pub step_in_place_answers : (z : AtExit step_in_place_contract.ended κs) (r : Res step_in_place_contract.signature κs) → ent 𝓤 ((step_in_place_contract.clauses 𝓛 at_mem run κs a).ensures tt r z) (fact 𝓤 (Answered {A = Kind × State} (λ number place. (no number place, was)) (kind_at its_table was asked, stepped_of its_table was asked) (row_checks its_table was asked) (r, z.0.now)))
   step_in_place_answers z r =

@@ -45,7 +45,7 @@ use Rattle.steps.specs.InFront.{waits_by, waiting, waiting_step, waiting_steps}
 use Rattle.steps.specs.Verdict.{SheetPasses}
 use Rattle.steps.proofs.Sources.{typable}
 use Rattle.sheet.specs.declared.Head.{Head}
-use Rattle.sheet.specs.Table.{Table, table_of, cut, row_at, condition_row_at, lazy_of, evaluation_of, eval_in, process_of}
+use Rattle.sheet.specs.Table.{Table, table_of, cut, row_at, condition_row_at, lazy_of, evaluation_of, eval_in, process_of, lent_table}
 use Rattle.sheet.specs.Rules.{terms, tree, one_source, refuse, refusal_of, judged}
 use Rattle.sheet.specs.Accepted.{WellFormed, SingleSource, Narrow}
 use Rattle.sheet.specs.Sheet.{size_of, head_of, terms_of, conditions_of, sheet_size, contents, table_in}
@@ -219,32 +219,32 @@ fail_names t told = let (j, x, l, v) = (fail_told t).0 told in subst (λ (a : Re
 
 -- STEPS. A call that answers without a refusal tells by its contract that table and state are accepted.
 module _ (κs : Lfts 3) (a : ArgsD list_steps.signature κs) (z : AtExit (ended_of 3 list-steps-kinds.ps list-steps-kinds.r) κs) (r : ResD list_steps.signature κs) (listed : list-steps-reads.Post κs a r z) where
-  pub list_accepts : (size_values r).refusal ≡ 0 → Accepted (table_of a.1.0 a.1.1.0.now a.1.1.1.0.now) a.0
-  list_accepts e = list_unrefused _ a.0 listed.1 a.1.1.1.1.0.now (ap (λ (n : Result ℕ Refusal). (size_values n).refusal) (sym listed.0.0) ∙ e)
+  pub list_accepts : (size_values r).refusal ≡ 0 → Accepted (lent_table a.1.0.now) a.0
+  list_accepts e = list_unrefused _ a.0 listed.1 a.1.1.0.now (ap (λ (n : Result ℕ Refusal). (size_values n).refusal) (sym listed.0.0) ∙ e)
 
 module _ (κs : Lfts 3) (a : ArgsD standing.signature κs) (z : AtExit (ended_of 3 standing-kinds.ps standing-kinds.r) κs) (r : ResD standing.signature κs) (stood : standing-reads.Post κs a r z) where
-  pub standing_accepts : (standing_values r).refusal ≡ 0 → Accepted (table_of a.1.0 a.1.1.0.now a.1.1.1.0.now) a.0
-  standing_accepts e = standing_unrefused _ a.0 stood.1 a.1.1.1.1.0.now (ap (λ (n : Result Stands Refusal). (standing_values n).refusal) (sym stood.0.0) ∙ e)
+  pub standing_accepts : (standing_values r).refusal ≡ 0 → Accepted (lent_table a.1.0.now) a.0
+  standing_accepts e = standing_unrefused _ a.0 stood.1 a.1.1.0.now (ap (λ (n : Result Stands Refusal). (standing_values n).refusal) (sym stood.0.0) ∙ e)
 
 module _ (κs : Lfts 3) (a : ArgsD waits-for.signature κs) (z : AtExit (ended_of 3 waits-for-kinds.ps waits-for-kinds.r) κs) (r : ResD waits-for.signature κs) (told : waits-for-reads.Post κs a r z) where
-  pub waits_accepts : (size_values r).refusal ≡ 0 → Accepted (table_of a.1.0 a.1.1.0.now a.1.1.1.0.now) a.0
-  waits_accepts e = waits_unrefused _ a.0 told.1 a.1.1.1.1.0.now (ap (λ (n : Result ℕ Refusal). (size_values n).refusal) (sym told.0.0) ∙ e)
+  pub waits_accepts : (size_values r).refusal ≡ 0 → Accepted (lent_table a.1.0.now) a.0
+  waits_accepts e = waits_unrefused _ a.0 told.1 a.1.1.0.now (ap (λ (n : Result ℕ Refusal). (size_values n).refusal) (sym told.0.0) ∙ e)
 
 module _ (κs : Lfts 2) (a : ArgsD step-kind.signature κs) (z : AtExit (ended_of 2 step-kind-kinds.ps step-kind-kinds.r) κs) (r : ResD step-kind.signature κs) (asked : step-kind-reads.Post κs a r z) where
-  pub kind_accepts : (step_values r).refusal ≡ 0 → Accepted (table_of a.1.0 a.1.1.0.now a.1.1.1.0.now) a.0
+  pub kind_accepts : (step_values r).refusal ≡ 0 → Accepted (lent_table a.1.0.now) a.0
   kind_accepts e = kind_unrefused _ a.0 asked.1 _ (ap (λ (k : Kind). (step_values k).refusal) (sym asked.0) ∙ e)
 
 module _ (κs : Lfts 2) (a : ArgsD take_step.signature κs) (z : AtExit (ended_of 2 take-step-kinds.ps take-step-kinds.r) κs) (r : ResD take_step.signature κs) (took : take-step-reads.Post κs a r z) where
-  pub take_accepts : (step_values r.answer).refusal ≡ 0 → Accepted (table_of a.1.0 a.1.1.0.now a.1.1.1.0.now) a.0
+  pub take_accepts : (step_values r.answer).refusal ≡ 0 → Accepted (lent_table a.1.0.now) a.0
   take_accepts e = step_unrefused _ a.0 took.1 _ (ap (λ (k : Stepped). (step_values k.answer).refusal) (sym took.0) ∙ e)
 
 module _ (κs : Lfts 3) (a : ArgsD compact.signature κs) (z : AtExit (ended_of 3 compact-kinds.ps compact-kinds.r) κs) (r : ResD compact.signature κs) (made : compact-reads.Post κs a r z) where
-  pub compact_accepts : (size_values r.answer).refusal ≡ 0 → Accepted (table_of a.1.0 a.1.1.0.now a.1.1.1.0.now) a.0
-  compact_accepts e = compact_unrefused _ a.0 made.1 a.1.1.1.1.0.now (ap (λ (c : Compacted). (size_values c.answer).refusal) (sym made.0.0) ∙ e)
+  pub compact_accepts : (size_values r.answer).refusal ≡ 0 → Accepted (lent_table a.1.0.now) a.0
+  compact_accepts e = compact_unrefused _ a.0 made.1 a.1.1.0.now (ap (λ (c : Compacted). (size_values c.answer).refusal) (sym made.0.0) ∙ e)
 
 -- ... of the record as it was lent, at every model
 module _ {M : Type 1} {𝓤 : Ura M} (𝓛 : Logic 𝓤) (at_mem : Memory → SProp 𝓤) (run : Routine → Fun 𝓤) (κs : Lfts 3) (a : Args step-in-place.signature κs) (z : AtExit step-in-place.ended κs) (r : Res step-in-place.signature κs) where
-  pub in_place_accepts : ent 𝓤 ((step-in-place.clauses 𝓛 at_mem run κs a).ensures tt r z) (fact 𝓤 ((step_values r).refusal ≡ 0 → Accepted (table_of a.1.0 a.1.1.0.now a.1.1.1.0.now) a.0.now))
+  pub in_place_accepts : ent 𝓤 ((step-in-place.clauses 𝓛 at_mem run κs a).ensures tt r z) (fact 𝓤 ((step_values r).refusal ≡ 0 → Accepted (lent_table a.1.0.now) a.0.now))
   in_place_accepts = fact_mono 𝓤 _ _ (λ (told, _, size) e. step_unrefused _ a.0.now size _ (ap (λ (k : Kind). (step_values k).refusal) (sym told) ∙ e))
 
 -- A table and a state that are accepted are answered: with room for 256 rows `list_steps` refuses nothing.

@@ -5,7 +5,7 @@
 ghost use Rattle.std.specs.Prelude.{◌<◌, ◌≤◌};
 
 use samples::Sample;
-use sheet::{Head, Refusal};
+use sheet::{Head, Refusal, Table};
 use std::io;
 
 fn say_refused(rt: &impl Print, refusal: Refusal) -> io::Result<()> {
@@ -25,9 +25,15 @@ fn read(rt: &impl Print, name: &str, s: &[u8]) -> io::Result<()> {
     }
 }
 
+// Head and rows come one by one: seven tables written out would be longer.
 fn judge(rt: &impl Print, name: &str, h: Head, ts: &[u8], cs: &[u8]) -> io::Result<()> {
     print!(rt; "judge {name}")?;
-    match judge::judge(h, ts, cs) {
+    let t = Table {
+        head: h,
+        terms: ts,
+        conditions: cs,
+    };
+    match judge::judge(&t) {
         Ok(()) => println!(rt; ": accepted"),
         Err(refusal) => say_refused(rt, refusal),
     }
@@ -55,9 +61,12 @@ fn write(
     requires { lent ≤ 2067 }
 {
     print!(rt; "write {name}")?;
-    let ts = s.terms.as_flattened();
-    let cs = s.conditions.as_flattened();
-    match codec::write(h, ts, cs, &mut out[..lent]) {
+    let t = Table {
+        head: h,
+        terms: s.terms.as_flattened(),
+        conditions: s.conditions.as_flattened(),
+    };
+    match codec::write(&t, &mut out[..lent]) {
         Ok(size) => {
             println!(rt; ": size {size}")?;
             read(rt, name, &out[..size.min(2067)])

@@ -15,7 +15,7 @@ use Rattle.conditions.specs.Conditions.{condition}
 use Rattle.conditions.proofs.Numbers.{links_number}
 use Rattle.steps.specs.Rows.{condition_of}
 use Rattle.steps.specs.Verdict.{SheetPasses}
-use Rattle.sheet.specs.Table.{Table, table_of, row_at, condition_row_at, eval_in}
+use Rattle.sheet.specs.Table.{Table, row_at, condition_row_at, eval_in, lent_table}
 use Rattle.sheet.specs.declared.Refusal.{Refusal}
 use Rattle.sheet.specs.Rules.{table_checks, refuse, no, as_refusal, refusal_of}
 use Rattle.sheet.proofs.Accepted.{meets, well_formed, single_source}
@@ -152,5 +152,5 @@ module _ (t : Table) where
         subst (Fits t) is (fresh_fits t mode)
 
 -- WHATEVER `give_verdict` RETURNS: if it is pass, demand 3 holds of the table in the caller's bytes.
-pub returned_pass_demand_3 : (κs : Lfts 2) (a : ArgsD give-verdict.signature κs) (z : AtExit (ended_of 2 kinds.ps kinds.r) κs) (r : ResD give-verdict.signature κs) → reads.Post κs a r z → r ≡ Ok Pass → Demand3 (table_of a.0 a.1.0.now a.1.1.0.now)
+pub returned_pass_demand_3 : (κs : Lfts 2) (a : ArgsD give-verdict.signature κs) (z : AtExit (ended_of 2 kinds.ps kinds.r) κs) (r : ResD give-verdict.signature κs) → reads.Post κs a r z → r ≡ Ok Pass → Demand3 (lent_table a.0.now)
 returned_pass_demand_3 κs a z r told e = pass_demand_3 _ (sym told ∙ e)

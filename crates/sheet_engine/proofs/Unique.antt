@@ -79,7 +79,7 @@ conditions_part_one κs a z z' r r' p q = p ∙ sym q
 pub judge_table_one : (κs : Lfts 2) (a : ArgsD judge_table_contract.signature κs) (z z' : AtExit (ended_of 2 judge_table_kinds.ps judge_table_kinds.r) κs) (r r' : ResD judge_table_contract.signature κs) → judge_table_reads.Post κs a r z → judge_table_reads.Post κs a r' z' → r ≡ r'
 judge_table_one κs a z z' r r' p q = p ∙ sym q
 
-pub write_sheet_one : (κs : Lfts 3) (a : ArgsD write_sheet_contract.signature κs) (z z' : AtExit (ended_of 3 write_sheet_kinds.ps write_sheet_kinds.r) κs) (r r' : ResD write_sheet_contract.signature κs) → write_sheet_reads.Post κs a r z → write_sheet_reads.Post κs a r' z' → (r ≡ r') × (z.1.1.1.0.now ≡ z'.1.1.1.0.now)
+pub write_sheet_one : (κs : Lfts 3) (a : ArgsD write_sheet_contract.signature κs) (z z' : AtExit (ended_of 3 write_sheet_kinds.ps write_sheet_kinds.r) κs) (r r' : ResD write_sheet_contract.signature κs) → write_sheet_reads.Post κs a r z → write_sheet_reads.Post κs a r' z' → (r ≡ r') × (z.1.0.now ≡ z'.1.0.now)
 write_sheet_one κs a z z' r r' p q = (p.0 ∙ sym q.0, p.1 ∙ sym q.1)
 
 pub give_verdict_one : (κs : Lfts 2) (a : ArgsD give_verdict_contract.signature κs) (z z' : AtExit (ended_of 2 give_verdict_kinds.ps give_verdict_kinds.r) κs) (r r' : ResD give_verdict_contract.signature κs) → give_verdict_reads.Post κs a r z → give_verdict_reads.Post κs a r' z' → r ≡ r'
@@ -101,19 +101,19 @@ pub take_step_one : (κs : Lfts 2) (a : ArgsD take_step_contract.signature κs) 
 take_step_one κs a z z' r r' p q = p.0 ∙ sym q.0
 
 -- ... and no second content of the lent buffer
-pub list_steps_one : (κs : Lfts 3) (a : ArgsD list_steps_contract.signature κs) (z z' : AtExit (ended_of 3 list_steps_kinds.ps list_steps_kinds.r) κs) (r r' : ResD list_steps_contract.signature κs) → list_steps_reads.Post κs a r z → list_steps_reads.Post κs a r' z' → (r ≡ r') × (z.1.1.1.1.0.now ≡ z'.1.1.1.1.0.now)
+pub list_steps_one : (κs : Lfts 3) (a : ArgsD list_steps_contract.signature κs) (z z' : AtExit (ended_of 3 list_steps_kinds.ps list_steps_kinds.r) κs) (r r' : ResD list_steps_contract.signature κs) → list_steps_reads.Post κs a r z → list_steps_reads.Post κs a r' z' → (r ≡ r') × (z.1.1.0.now ≡ z'.1.1.0.now)
 list_steps_one κs a z z' r r' p q = (p.0.0 ∙ sym q.0.0, p.0.1 ∙ sym q.0.1)
 
-pub standing_one : (κs : Lfts 3) (a : ArgsD standing_contract.signature κs) (z z' : AtExit (ended_of 3 standing_kinds.ps standing_kinds.r) κs) (r r' : ResD standing_contract.signature κs) → standing_reads.Post κs a r z → standing_reads.Post κs a r' z' → (r ≡ r') × (z.1.1.1.1.0.now ≡ z'.1.1.1.1.0.now)
+pub standing_one : (κs : Lfts 3) (a : ArgsD standing_contract.signature κs) (z z' : AtExit (ended_of 3 standing_kinds.ps standing_kinds.r) κs) (r r' : ResD standing_contract.signature κs) → standing_reads.Post κs a r z → standing_reads.Post κs a r' z' → (r ≡ r') × (z.1.1.0.now ≡ z'.1.1.0.now)
 standing_one κs a z z' r r' p q = (p.0.0 ∙ sym q.0.0, p.0.1 ∙ sym q.0.1)
 
-pub waits_for_one : (κs : Lfts 3) (a : ArgsD waits_for_contract.signature κs) (z z' : AtExit (ended_of 3 waits_for_kinds.ps waits_for_kinds.r) κs) (r r' : ResD waits_for_contract.signature κs) → waits_for_reads.Post κs a r z → waits_for_reads.Post κs a r' z' → (r ≡ r') × (z.1.1.1.1.0.now ≡ z'.1.1.1.1.0.now)
+pub waits_for_one : (κs : Lfts 3) (a : ArgsD waits_for_contract.signature κs) (z z' : AtExit (ended_of 3 waits_for_kinds.ps waits_for_kinds.r) κs) (r r' : ResD waits_for_contract.signature κs) → waits_for_reads.Post κs a r z → waits_for_reads.Post κs a r' z' → (r ≡ r') × (z.1.1.0.now ≡ z'.1.1.0.now)
 waits_for_one κs a z z' r r' p q = (p.0.0 ∙ sym q.0.0, p.0.1 ∙ sym q.0.1)
 
-pub compact_one : (κs : Lfts 3) (a : ArgsD compact_contract.signature κs) (z z' : AtExit (ended_of 3 compact_kinds.ps compact_kinds.r) κs) (r r' : ResD compact_contract.signature κs) → compact_reads.Post κs a r z → compact_reads.Post κs a r' z' → (r ≡ r') × (z.1.1.1.1.0.now ≡ z'.1.1.1.1.0.now)
+pub compact_one : (κs : Lfts 3) (a : ArgsD compact_contract.signature κs) (z z' : AtExit (ended_of 3 compact_kinds.ps compact_kinds.r) κs) (r r' : ResD compact_contract.signature κs) → compact_reads.Post κs a r z → compact_reads.Post κs a r' z' → (r ≡ r') × (z.1.1.0.now ≡ z'.1.1.0.now)
 compact_one κs a z z' r r' p q = (p.0.0 ∙ sym q.0.0, p.0.1 ∙ sym q.0.1)
 
-pub damage_sheet_one : (κs : Lfts 3) (a : ArgsD damage_sheet_contract.signature κs) (z z' : AtExit (ended_of 3 damage_sheet_kinds.ps damage_sheet_kinds.r) κs) (r r' : ResD damage_sheet_contract.signature κs) → damage_sheet_reads.Post κs a r z → damage_sheet_reads.Post κs a r' z' → (r ≡ r') × (z.1.1.1.1.0.now ≡ z'.1.1.1.1.0.now)
+pub damage_sheet_one : (κs : Lfts 3) (a : ArgsD damage_sheet_contract.signature κs) (z z' : AtExit (ended_of 3 damage_sheet_kinds.ps damage_sheet_kinds.r) κs) (r r' : ResD damage_sheet_contract.signature κs) → damage_sheet_reads.Post κs a r z → damage_sheet_reads.Post κs a r' z' → (r ≡ r') × (z.1.1.0.now ≡ z'.1.1.0.now)
 damage_sheet_one κs a z z' r r' p q = (p.0 ∙ sym q.0, p.1 ∙ sym q.1)
 
 -- ... and no second content of the caller's state record: said in the logic of the contract, at every model

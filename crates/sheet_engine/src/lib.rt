@@ -3,8 +3,8 @@
 #![tactic(auto)]
 
 ghost use Rattle.std.specs.Prelude.{◌≡◌, Ok, length};
-ghost use Rattle.sheet.specs.Table.{table_of};
 ghost use Rattle.laws.specs.Checks.{checked};
+ghost use Rattle.sheet.specs.Table.{lent_table};
 ghost use Rattle.sheet.specs.Rules.{no, judged};
 ghost use Rattle.sheet.specs.Sheet.{settings_of, terms_of, conditions_of};
 ghost use Rattle.moves.specs.Steps.{Sized};
@@ -12,7 +12,7 @@ ghost use Rattle.codec.specs.Answers.{Bytes, read_of, part_of, write_of, written
 ghost use Rattle.sheet_engine.specs.Answers.{verdict_answer, start_answer, acts_left, links_unset, call_checks, list_answer, list_buffer, standing_answer, standing_buffer, waits_answer, waits_buffer, kind_answer, step_answer, compact_answer, compact_buffer, damage_answer, damage_buffer};
 
 use engine::Stepped;
-use sheet::{Head, Refusal};
+use sheet::{Head, Refusal, Table};
 use state::{State, StepKind};
 use verdict::Verdict;
 
@@ -59,41 +59,41 @@ pub fn conditions_part(s: &[u8]) -> &[u8]
 }
 
 // Whether a table is accepted, or its refusal.
-pub fn judge_table(h: Head, ts: &[u8], cs: &[u8]) -> Result<(), Refusal>
-    ensures { result ≡ judged (table_of h ts.now cs.now) }
+pub fn judge_table(t: &Table) -> Result<(), Refusal>
+    ensures { result ≡ judged (lent_table t.now) }
 {
-    judge::judge(h, ts, cs)
+    judge::judge(t)
 }
 
 // The bytes of a table.
-pub fn write_sheet(h: Head, ts: &[u8], cs: &[u8], out: &mut [u8]) -> Result<usize, Refusal>
-    ensures { (result ≡ write_of h ts.now cs.now (length out.old)) × (out.new ≡ written_of h ts.now cs.now out.old) }
+pub fn write_sheet(t: &Table, out: &mut [u8]) -> Result<usize, Refusal>
+    ensures { (result ≡ write_of t.now.head t.now.terms.now t.now.conditions.now (length out.old)) × (out.new ≡ written_of t.now.head t.now.terms.now t.now.conditions.now out.old) }
 {
-    codec::write(h, ts, cs, out)
+    codec::write(t, out)
 }
 
 // The verdict of a table.
-pub fn give_verdict(h: Head, ts: &[u8], cs: &[u8]) -> Result<Verdict, Refusal>
-    ensures { result ≡ verdict_answer (table_of h ts.now cs.now) }
+pub fn give_verdict(t: &Table) -> Result<Verdict, Refusal>
+    ensures { result ≡ verdict_answer (lent_table t.now) }
 {
-    match judge::judge(h, ts, cs) {
-        Ok(()) => Ok(verdict::give(h, ts, cs)),
+    match judge::judge(t) {
+        Ok(()) => Ok(verdict::give(t)),
         Err(refusal) => Err(refusal),
     }
 }
 
 // A fresh state of a table, in a mode.
-pub fn start(h: Head, ts: &[u8], cs: &[u8], mode: u8) -> Result<State, Refusal>
-    ensures { result ≡ start_answer (table_of h ts.now cs.now) mode }
+pub fn start(t: &Table, mode: u8) -> Result<State, Refusal>
+    ensures { result ≡ start_answer (lent_table t.now) mode }
 {
-    judge::judge(h, ts, cs)?;
+    judge::judge(t)?;
     if !fitting::mode_ok(mode) {
         return Err(Refusal {
             number: 9,
             place: mode as usize,
         });
     }
-    Ok(counts::counted(h.m, ts, h.n, state::fresh(mode)))
+    Ok(counts::counted(t.head.m, t.terms, t.head.n, state::fresh(mode)))
 }
 
 // Is there work left? How many ACT rows are in the remainder, as the state says; nothing is walked, and nothing is judged.
@@ -111,21 +111,21 @@ pub fn links_unset(s: State) -> u8
 }
 
 // The refusal of a table and a state.
-fn judge_state(s: State, h: Head, ts: &[u8], cs: &[u8]) -> Result<(), Refusal>
-    ensures { result ≡ checked no (Ok tt) (call_checks (table_of h ts.now cs.now) s) }
+fn judge_state(s: State, t: &Table) -> Result<(), Refusal>
+    ensures { result ≡ checked no (Ok tt) (call_checks (lent_table t.now) s) }
 {
-    judge::judge(h, ts, cs)?;
-    fitting::fit(h.m, h.n, ts, s)
+    judge::judge(t)?;
+    fitting::fit(t.head.m, t.head.n, t.terms, s)
 }
 
 // The rows that have a step, rising, to a lent buffer, and their number; 12 with the size that is needed.
-pub fn list_steps(s: State, h: Head, ts: &[u8], cs: &[u8], out: &mut [u8]) -> Result<usize, Refusal>
-    ensures value { (result ≡ list_answer (table_of h ts.now cs.now) s (length out.old)) × (out.new ≡ list_buffer (table_of h ts.now cs.now) s out.old) }
+pub fn list_steps(s: State, t: &Table, out: &mut [u8]) -> Result<usize, Refusal>
+    ensures value { (result ≡ list_answer (lent_table t.now) s (length out.old)) × (out.new ≡ list_buffer (lent_table t.now) s out.old) }
     ensures sized { Sized s }
 {
-    judge_state(s, h, ts, cs)?;
+    judge_state(s, t)?;
     let room = out.len();
-    let size = engine::list(h, ts, cs, s, out);
+    let size = engine::list(t, s, out);
     if room < size {
         return Err(Refusal {
             number: 12,
@@ -136,13 +136,13 @@ pub fn list_steps(s: State, h: Head, ts: &[u8], cs: &[u8], out: &mut [u8]) -> Re
 }
 
 // How a state stands, and the JOIN rows that it waits for, rising, to a lent buffer; 12 with the size that is needed.
-pub fn standing(s: State, h: Head, ts: &[u8], cs: &[u8], out: &mut [u8]) -> Result<Stands, Refusal>
-    ensures value { (result ≡ standing_answer (table_of h ts.now cs.now) s (length out.old)) × (out.new ≡ standing_buffer (table_of h ts.now cs.now) s out.old) }
+pub fn standing(s: State, t: &Table, out: &mut [u8]) -> Result<Stands, Refusal>
+    ensures value { (result ≡ standing_answer (lent_table t.now) s (length out.old)) × (out.new ≡ standing_buffer (lent_table t.now) s out.old) }
     ensures sized { Sized s }
 {
-    judge_state(s, h, ts, cs)?;
+    judge_state(s, t)?;
     let room = out.len();
-    let found = engine::stand(h, ts, cs, s, out);
+    let found = engine::stand(t, s, out);
     let waiting = found.waiting;
     if room < waiting {
         return Err(Refusal {
@@ -160,13 +160,13 @@ pub fn standing(s: State, h: Head, ts: &[u8], cs: &[u8], out: &mut [u8]) -> Resu
 }
 
 // What the rows wait for that `standing` tells, a byte for each, in their order, to a lent buffer, and their number: the link, or 255 where the condition is false; 12 with the size that is needed.
-pub fn waits_for(s: State, h: Head, ts: &[u8], cs: &[u8], out: &mut [u8]) -> Result<usize, Refusal>
-    ensures value { (result ≡ waits_answer (table_of h ts.now cs.now) s (length out.old)) × (out.new ≡ waits_buffer (table_of h ts.now cs.now) s out.old) }
+pub fn waits_for(s: State, t: &Table, out: &mut [u8]) -> Result<usize, Refusal>
+    ensures value { (result ≡ waits_answer (lent_table t.now) s (length out.old)) × (out.new ≡ waits_buffer (lent_table t.now) s out.old) }
     ensures sized { Sized s }
 {
-    judge_state(s, h, ts, cs)?;
+    judge_state(s, t)?;
     let room = out.len();
-    let bytes = engine::wait(h, ts, cs, s, out);
+    let bytes = engine::wait(t, s, out);
     if room < bytes {
         return Err(Refusal {
             number: 12,
@@ -177,21 +177,21 @@ pub fn waits_for(s: State, h: Head, ts: &[u8], cs: &[u8], out: &mut [u8]) -> Res
 }
 
 // The step of a row; 11 and the row where it has none.
-pub fn step_kind(s: State, h: Head, ts: &[u8], cs: &[u8], row: usize) -> Result<StepKind, Refusal>
-    ensures value { result ≡ kind_answer (table_of h ts.now cs.now) s row }
+pub fn step_kind(s: State, t: &Table, row: usize) -> Result<StepKind, Refusal>
+    ensures value { result ≡ kind_answer (lent_table t.now) s row }
     ensures sized { Sized s }
 {
-    judge_state(s, h, ts, cs)?;
-    engine::kind(h, ts, cs, s, row)
+    judge_state(s, t)?;
+    engine::kind(t, s, row)
 }
 
 // Taking the step of a row: the kind and the new state; a refusal gives the state back as it was.
-pub fn take_step(s: State, h: Head, ts: &[u8], cs: &[u8], row: usize) -> Stepped
-    ensures value { result ≡ step_answer (table_of h ts.now cs.now) s row }
+pub fn take_step(s: State, t: &Table, row: usize) -> Stepped
+    ensures value { result ≡ step_answer (lent_table t.now) s row }
     ensures sized { Sized s }
 {
-    match judge_state(s, h, ts, cs) {
-        Ok(()) => engine::take(h, ts, cs, s, row),
+    match judge_state(s, t) {
+        Ok(()) => engine::take(t, s, row),
         Err(refusal) => Stepped {
             answer: Err(refusal),
             state: s,
@@ -200,29 +200,23 @@ pub fn take_step(s: State, h: Head, ts: &[u8], cs: &[u8], row: usize) -> Stepped
 }
 
 // Taking a step on the caller's own state: the record is the state after the step, or as it was.
-pub fn step_in_place(
-    state: &mut State,
-    h: Head,
-    ts: &[u8],
-    cs: &[u8],
-    row: usize,
-) -> Result<StepKind, Refusal>
-    ensures { (result ≡ (step_answer (table_of h ts.now cs.now) state.old row).answer) × (state.new ≡ (step_answer (table_of h ts.now cs.now) state.old row).state) × Sized state.old }
+pub fn step_in_place(state: &mut State, t: &Table, row: usize) -> Result<StepKind, Refusal>
+    ensures { (result ≡ (step_answer (lent_table t.now) state.old row).answer) × (state.new ≡ (step_answer (lent_table t.now) state.old row).state) × Sized state.old }
 {
-    let next = take_step(*state, h, ts, cs, row);
+    let next = take_step(*state, t, row);
     *state = next.state;
     next.answer
 }
 
 // The compacted sheet of a table and a state, its bytes to a lent buffer, and the state in which it goes on; 12 with the size that is needed. A refusal gives the state back as it was.
-pub fn compact(s: State, h: Head, ts: &[u8], cs: &[u8], out: &mut [u8]) -> Compacted
-    ensures value { (result ≡ compact_answer (table_of h ts.now cs.now) s (length out.old)) × (out.new ≡ compact_buffer (table_of h ts.now cs.now) s out.old) }
+pub fn compact(s: State, t: &Table, out: &mut [u8]) -> Compacted
+    ensures value { (result ≡ compact_answer (lent_table t.now) s (length out.old)) × (out.new ≡ compact_buffer (lent_table t.now) s out.old) }
     ensures sized { Sized s }
 {
-    match judge_state(s, h, ts, cs) {
+    match judge_state(s, t) {
         Ok(()) => {
             let room = out.len();
-            let size = collect::write(h, ts, cs, s, out);
+            let size = collect::write(t, s, out);
             if room < size {
                 return Compacted {
                     answer: Err(Refusal {
@@ -245,15 +239,9 @@ pub fn compact(s: State, h: Head, ts: &[u8], cs: &[u8], out: &mut [u8]) -> Compa
 }
 
 // The small sheet that shows what the failing condition of a JOIN row does, its bytes to a lent buffer: 15 and the row where it has none, 12 with the size that is needed.
-pub fn damage_sheet(
-    h: Head,
-    ts: &[u8],
-    cs: &[u8],
-    row: usize,
-    out: &mut [u8],
-) -> Result<usize, Refusal>
-    ensures { (result ≡ damage_answer (table_of h ts.now cs.now) row (length out.old)) × (out.new ≡ damage_buffer (table_of h ts.now cs.now) row out.old) }
+pub fn damage_sheet(t: &Table, row: usize, out: &mut [u8]) -> Result<usize, Refusal>
+    ensures { (result ≡ damage_answer (lent_table t.now) row (length out.old)) × (out.new ≡ damage_buffer (lent_table t.now) row out.old) }
 {
-    judge::judge(h, ts, cs)?;
-    showing::show(h, ts, cs, row, out)
+    judge::judge(t)?;
+    showing::show(t, row, out)
 }

@@ -3,33 +3,36 @@
 #![tactic(auto)]
 
 ghost use Rattle.std.specs.Prelude.{◌≡◌, length};
-ghost use Rattle.sheet.specs.Table.{table_of};
+ghost use Rattle.sheet.specs.Table.{lent_table};
 ghost use Rattle.sheet.specs.Rules.{refusal_of};
 ghost use Rattle.showing.specs.Answers.{show_answer, show_buffer};
 ghost use Rattle.showing.specs.Asked.{Asked};
 
 use failure::Failure;
-use sheet::{Head, Refusal};
+use sheet::{Head, Refusal, Table};
 
 // The sheet for a JOIN row whose condition, on the links of the mask, fails at a number by a link: 15 where it would have too many condition rows, then 12. A FALSE row is put behind the kept condition rows, and counts where a link is left unset.
 fn write(
-    h: Head,
-    ts: &[u8],
-    cs: &[u8],
+    t: &Table,
     row: usize,
     mask: u64,
     number: usize,
     link: usize,
     out: &mut [u8],
 ) -> Result<usize, Refusal>
-    requires { Asked (table_of h ts.now cs.now) row mask number link }
-    ensures { (result ≡ show_answer (table_of h ts.now cs.now) row (length out.old)) × (out.new ≡ show_buffer (table_of h ts.now cs.now) row out.old) }
+    requires { Asked (lent_table t.now) row mask number link }
+    ensures { (result ≡ show_answer (lent_table t.now) row (length out.old)) × (out.new ≡ show_buffer (lent_table t.now) row out.old) }
 {
     let mut conditions = [0; 1028];
-    let kept = excerpt::lay(cs, h.k, ts[row * 4 + 1], &mut conditions);
+    let kept = excerpt::lay(
+        t.conditions,
+        t.head.k,
+        t.terms[row * 4 + 1],
+        &mut conditions,
+    );
     laying::put(&mut conditions, kept * 4, [0, 0, 0, 0]);
-    let values = scene::values(mask, h.m, number);
-    let unset = scene::any_unset(mask, h.m, &values);
+    let values = scene::values(mask, t.head.m, number);
+    let unset = scene::any_unset(mask, t.head.m, &values);
     let k = kept + unset as usize;
     if 256 < k {
         return Err(Refusal {
@@ -40,7 +43,7 @@ fn write(
     let mut terms = [0; 104];
     let n = scene::lay(
         mask,
-        h.m,
+        t.head.m,
         &values,
         unset,
         link,
@@ -49,13 +52,18 @@ fn write(
         &mut terms,
     );
     let head = Head {
-        evaluation: evaluate::is_lazy(h.evaluation) as u8,
-        m: h.m,
+        evaluation: evaluate::is_lazy(t.head.evaluation) as u8,
+        m: t.head.m,
         n,
         k,
     };
     let room = out.len();
-    let size = codec::lay(head, &terms, &conditions, out);
+    let small = Table {
+        head,
+        terms: &terms,
+        conditions: &conditions,
+    };
+    let size = codec::lay(&small, out);
     if room < size {
         return Err(Refusal {
             number: 12,
@@ -66,25 +74,25 @@ fn write(
 }
 
 // The sheet for any row of an accepted table: 15 where it is no JOIN whose condition fails.
-pub fn show(h: Head, ts: &[u8], cs: &[u8], row: usize, out: &mut [u8]) -> Result<usize, Refusal>
-    requires { (refusal_of (table_of h ts.now cs.now)).number ≡ 0 }
-    ensures { (result ≡ show_answer (table_of h ts.now cs.now) row (length out.old)) × (out.new ≡ show_buffer (table_of h ts.now cs.now) row out.old) }
+pub fn show(t: &Table, row: usize, out: &mut [u8]) -> Result<usize, Refusal>
+    requires { (refusal_of (lent_table t.now)).number ≡ 0 }
+    ensures { (result ≡ show_answer (lent_table t.now) row (length out.old)) × (out.new ≡ show_buffer (lent_table t.now) row out.old) }
 {
     let none = Refusal {
         number: 15,
         place: row,
     };
-    if h.n <= row {
+    if t.head.n <= row {
         return Err(none);
     }
-    if ts[row * 4] != 3 {
+    if t.terms[row * 4] != 3 {
         return Err(none);
     }
-    let c = ts[row * 4 + 1];
-    let masks = reach::masks(cs, h.k);
+    let c = t.terms[row * 4 + 1];
+    let masks = reach::masks(t.conditions, t.head.k);
     let mask = reach::mask_of(&masks, c);
-    match failure::of_condition(h.evaluation, h.m, cs, c as usize, mask) {
+    match failure::of_condition(t.head.evaluation, t.head.m, t.conditions, c as usize, mask) {
         None => Err(none),
-        Some(Failure { number, link }) => write(h, ts, cs, row, mask, number, link, out),
+        Some(Failure { number, link }) => write(t, row, mask, number, link, out),
     }
 }

@@ -2,7 +2,8 @@
 
 #![tactic(auto)]
 
-use cases::{Cases, Refused, Said, Table, first, told};
+use cases::{Cases, Refused, Said, first, told};
+use sheet::Table;
 use sheet_engine::Stands;
 use state::State;
 use std::io::Read;
@@ -104,11 +105,11 @@ pub fn agrees(case: &mut Cases<impl Read>, linked: bool) -> Option<bool> {
     let mut links = [cases::BLANK; 256];
     read_rows(case, count, linked, &mut rows, &mut links)?;
     let stands = |out: &mut [u8]| {
-        let answer = sheet_engine::standing(s, t.head, t.terms, t.conditions, out);
+        let answer = sheet_engine::standing(s, &t, out);
         told(answer).map(stands_said)
     };
     let waits = |out: &mut [u8]| {
-        let answer = sheet_engine::waits_for(s, t.head, t.terms, t.conditions, out);
+        let answer = sheet_engine::waits_for(s, &t, out);
         told(answer).map(|size| counted(0, size))
     };
     let waited = expected.map(|said| counted(0, said.x));

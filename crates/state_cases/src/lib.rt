@@ -2,9 +2,9 @@
 
 #![tactic(auto)]
 
-use cases::{Cases, Refused, Said, Table, same_state, step_said, told};
+use cases::{Cases, Refused, Said, same_state, step_said, told};
 use engine::Stepped;
-use sheet::Refusal;
+use sheet::{Refusal, Table};
 use state::{State, StepKind};
 use std::io::Read;
 
@@ -26,16 +26,16 @@ fn step_agrees(case: &mut Cases<impl Read>, s: State, t: Table, row: usize) -> O
     let after = if expected.is_ok() { case.state()? } else { s };
     let answered = |answer: Result<StepKind, Refusal>| told(answer).map(step_said) == expected;
     let left = |next: Stepped| answered(next.answer) & same_state(next.state, after);
-    let kind = sheet_engine::step_kind(s, t.head, t.terms, t.conditions, row);
-    let taken = sheet_engine::take_step(s, t.head, t.terms, t.conditions, row);
-    let placed = lent::step_lent(s, t.head, t.terms, t.conditions, row);
+    let kind = sheet_engine::step_kind(s, &t, row);
+    let taken = sheet_engine::take_step(s, &t, row);
+    let placed = lent::step_lent(s, &t, row);
     Some(answered(kind) & left(taken) & left(placed))
 }
 
 fn list_agrees(case: &mut Cases<impl Read>, s: State, t: Table, room: usize) -> Option<bool> {
     let mut buffer = [cases::BLANK; cases::SPACE];
     let out = cases::lend(&mut buffer, room);
-    let answer = sheet_engine::list_steps(s, t.head, t.terms, t.conditions, out);
+    let answer = sheet_engine::list_steps(s, &t, out);
     case.size_agrees(answer, out)
 }
 

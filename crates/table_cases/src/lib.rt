@@ -2,8 +2,8 @@
 
 #![tactic(auto)]
 
-use cases::{Cases, Refused, Table, first, told};
-use sheet::{Head, Refusal};
+use cases::{Cases, Refused, first, told};
+use sheet::{Head, Refusal, Table};
 use std::io::Read;
 
 fn same_head(a: Head, b: Head) -> bool {
@@ -65,9 +65,9 @@ fn others_agree(answer: Result<usize, Refused>, out: &[u8], t: Table) -> bool {
         Ok(_) | Err((12, _)) => Ok(()),
         Err(refused) => Err(refused),
     };
-    let judged = sheet_engine::judge_table(t.head, t.terms, t.conditions);
-    let verdict = sheet_engine::give_verdict(t.head, t.terms, t.conditions);
-    let started = sheet_engine::start(t.head, t.terms, t.conditions, 1);
+    let judged = sheet_engine::judge_table(&t);
+    let verdict = sheet_engine::give_verdict(&t);
+    let started = sheet_engine::start(&t, 1);
     refused_alike(judged, expected)
         & refused_alike(verdict, expected)
         & refused_alike(started, expected)
@@ -77,7 +77,7 @@ fn others_agree(answer: Result<usize, Refused>, out: &[u8], t: Table) -> bool {
 fn write_agrees(case: &mut Cases<impl Read>, t: Table, room: usize) -> Option<bool> {
     let mut buffer = [cases::BLANK; cases::SPACE];
     let out = cases::lend(&mut buffer, room);
-    let answer = sheet_engine::write_sheet(t.head, t.terms, t.conditions, out);
+    let answer = sheet_engine::write_sheet(&t, out);
     let same = case.size_agrees(answer, out)?;
     Some(same & others_agree(told(answer), out, t))
 }

@@ -2,12 +2,12 @@
 
 #![tactic(auto)]
 
+ghost use Rattle.sheet.specs.Table.{lent_table};
 ghost use Rattle.std.specs.Prelude.{◌≡◌};
-ghost use Rattle.sheet.specs.Table.{table_of};
 ghost use Rattle.verdict.specs.Verdict.{verdict_of, Judged};
 
 use rows::term::{TermRow, term_row};
-use sheet::Head;
+use sheet::Table;
 
 #[derive(Clone, Copy)]
 pub enum Verdict {
@@ -20,21 +20,27 @@ pub enum Verdict {
 }
 
 // The verdict of a table that is judged. A condition row that has been tried, and passes, is seen.
-pub fn give(h: Head, ts: &[u8], cs: &[u8]) -> Verdict
-    requires { Judged (table_of h ts.now cs.now) }
-    ensures { result ≡ verdict_of (table_of h ts.now cs.now) }
+pub fn give(t: &Table) -> Verdict
+    requires { Judged (lent_table t.now) }
+    ensures { result ≡ verdict_of (lent_table t.now) }
 {
-    let masks = reach::masks(cs, h.k);
+    let masks = reach::masks(t.conditions, t.head.k);
     let mut seen = [false; 256];
-    for j in 0..h.n {
-        let TermRow::Join { condition, .. } = term_row(ts, j) else {
+    for j in 0..t.head.n {
+        let TermRow::Join { condition, .. } = term_row(t.terms, j) else {
             continue;
         };
         if seen[condition as usize] {
             continue;
         }
         let mask = reach::mask_of(&masks, condition);
-        let tried = failure::of_condition(h.evaluation, h.m, cs, condition as usize, mask);
+        let tried = failure::of_condition(
+            t.head.evaluation,
+            t.head.m,
+            t.conditions,
+            condition as usize,
+            mask,
+        );
         if let Some(failure) = tried {
             return Verdict::Fail {
                 row: j,

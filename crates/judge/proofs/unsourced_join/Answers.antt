@@ -32,4 +32,4 @@ loop-row-preserved c = let l = c.loop-row in
     searched_more _ _ l.row l.invariant c.loop-row-test.true (sym c.wants_within.ensures ∙ c.if-not-wants_within.false)
 
 pub returns : goal.returns
-returns c = let e : c.args.h.n ≡ c.loop-row.row = omega arith in e ∙ searched_end _ _ _ c.loop-row.invariant (omega arith) ∙ searched_sourced _ (sym c.is_compacted.ensures ∙ c.if-is_compacted.false) _ _ c.requires
+returns c = let e : c.args.t.now.head.n ≡ c.loop-row.row = omega arith in e ∙ searched_end _ _ _ c.loop-row.invariant (omega arith) ∙ searched_sourced _ (sym c.is_compacted.ensures ∙ c.if-is_compacted.false) _ _ c.requires

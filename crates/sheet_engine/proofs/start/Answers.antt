@@ -1,6 +1,6 @@
 use mathlib.Core.Path.{refl, sym, ◌∙◌, ap}
+use Rattle.sheet.specs.Table.{lent_table}
 use borrow.Author.Tests.{leb-true, leb-false}
-use Rattle.sheet.specs.Table.{table_of}
 use Rattle.sheet.proofs.Accepted.{accepted_form, rows_lent}
 use Rattle.sheet.proofs.Refusals.{passed_on, judged_refused, judged_accepted}
 use Rattle.moves.specs.Steps.{counted}
@@ -24,4 +24,4 @@ returns c =
     start_fresh _ _ refl _ (judged_accepted _ _ (sym c.judge.ensures ∙ c.in_ok-judge.was))
     (leb-true _ 1 (sym c.mode_ok.ensures ∙ c.if-not-mode_ok.false))
     c.counted.result
-    (c.counted.ensures ∙ ap (counted (table_of a.h a.ts.now a.cs.now)) c.fresh.ensures.value)
+    (c.counted.ensures ∙ ap (counted (lent_table a.t.now)) c.fresh.ensures.value)

@@ -14,8 +14,8 @@ overflow_mul-row c = omega (arith, row_small _ _ _ _ _ c.requires)
 pub overflow_add-row : goal.overflow_add-row
 overflow_add-row c = omega (arith, row_small _ _ _ _ _ c.requires)
 
-pub bounds-ts-row : goal.bounds-ts-row
-bounds-ts-row c = omega (arith, row_lent _ _ _ _ _ c.requires)
+pub bounds-t-row : goal.bounds-t-row
+bounds-t-row c = omega (arith, row_lent _ _ _ _ _ c.requires)
 
 pub lay-kept-requires : goal.lay-kept-requires
 lay-kept-requires c = to_excerpt _ _ _ _ _ c.requires
