@@ -3,15 +3,13 @@
 #![tactic(auto)]
 
 ghost use Rattle.std.specs.Prelude.{◌≡◌, ℕ, ◌+◌, ◌*◌, ◌<◌, ◌≤◌, length};
-ghost use Rattle.laws.specs.Sums.{count};
 ghost use Rattle.conditions.specs.Conditions.{OP};
 ghost use Rattle.sheet.specs.Table.{condition_row_at};
 ghost use Rattle.layout.specs.Bytes.{four, condition_bytes};
 ghost use Rattle.rows.specs.Conditions.{operator_of};
-ghost use Rattle.flags.specs.Flags.{flagged, Shows};
-ghost use Rattle.laying.specs.LaidIn.{LaidIn};
+ghost use Rattle.flags.specs.Flags.{Shows};
 ghost use Rattle.damage.specs.Reached.{reaches_row, LowerTo};
-ghost use Rattle.excerpt.specs.Excerpt.{with_operands, new_bytes, new_conditions, Excerpts};
+ghost use Rattle.excerpt.specs.Excerpt.{with_operands, new_bytes, Excerpts};
 
 use rows::condition::{ConditionRow, Operator, condition_row};
 
@@ -76,21 +74,6 @@ fn new_row(cs: &[u8], row: usize, ranks: &[u8; 256]) -> [u8; 4]
     }
 }
 
-// The rows that are flagged, in their old order, into an array; and how many.
-fn new_rows(cs: &[u8], k: usize, flags: &[u8; 256], ranks: &[u8; 256], out: &mut [u8]) -> usize
-    requires { ((k ≤ 256) × (k * 4 ≤ length cs.now)) × (k * 4 ≤ length out.old) }
-    ensures { LaidIn (count (flagged flags.now) k) (new_conditions cs.now k flags.now ranks.now) result out.new }
-{
-    let mut count = 0;
-    for i in 0..k {
-        if flags[i] == 1 {
-            laying::put(out, count * 4, new_row(cs, i, ranks));
-            count += 1;
-        }
-    }
-    count
-}
-
 // The rows that row c reaches into an array, and how many; row c is the last.
 pub fn lay(cs: &[u8], k: usize, c: u8, out: &mut [u8]) -> usize
     requires { (((k ≤ 256) × (k * 4 ≤ length cs.now)) × (k * 4 ≤ length out.old)) × ((c < k) × LowerTo cs.now k) }
@@ -98,5 +81,9 @@ pub fn lay(cs: &[u8], k: usize, c: u8, out: &mut [u8]) -> usize
 {
     let flags = reached_rows(cs, c);
     let ranks = laying::ranks(&flags, k);
-    new_rows(cs, k, &flags, &ranks, out)
+    let row = |i: usize|
+        requires { i * 4 + 4 ≤ length cs.now }
+        ensures { result ≡ new_bytes (condition_row_at cs.entry.now i) ranks }
+    { new_row(cs, i, &ranks) };
+    laying::lay(&flags, k, row, out)
 }
