@@ -25,7 +25,7 @@ def matches():
 
 def functions():
     for p, s in bare.items():
-        for m in re.finditer(r"\bfn (\w+)[^(]*\(([^{]*?)\)\s*(?:->|\{|\n\s*(?:requires|ensures)|;)", s):
+        for m in re.finditer(r"\bfn (\w+)(?:<.*?>)?\(([^{]*?)\)\s*(?:->|\{|\n\s*(?:requires|ensures)|;)", s):
             yield p, s[: m.start()].count("\n") + 1, m.group(1), " ".join(m.group(2).split())
 
 
