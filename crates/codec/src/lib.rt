@@ -56,7 +56,7 @@ fn conditions_ok(s: &[u8]) -> bool
     entry_ok(s, 11, 3, 18 + t) & (in_fours(0, c) & (18 + (t + c) == s.len()))
 }
 
-// 2: the place of the first fault in the contents; 12 where there is none.
+// 2: the place of the first fault in the contents; 12 where there is none, as `place_of` has it.
 fn bad_contents(s: &[u8]) -> usize
     requires { 22 ≤ length s.now }
     ensures { result ≡ place_of (contents s.now) }

@@ -36,7 +36,7 @@ fn top_step(row: u8, child: u8, mark: u8, tops: &[u8; 256]) -> u8
     row
 }
 
-// The top of a PICK: of a decided one its taken branch's.
+// The top of a PICK: of a decided one its taken branch's. Marks are bytes of a `State`, so they are matched as numbers.
 #[tactic(auto, unfolding(steps::specs::Marks::open_branches))]
 fn top_pick(row: u8, left: u8, right: u8, mark: u8, tops: &[u8; 256]) -> u8
     ensures { result ≡ top_branch (open_branches pick mark) row (get_or tops.now left 0) (get_or tops.now right 0) }

@@ -64,7 +64,7 @@ fn first_unsteady(
     None
 }
 
-// The lowest link that is false at a number, over the links of a mask in rising order; m where none is.
+// The lowest link that is false at a number, over the links of a mask in rising order; m where none is, as `lowest` has it.
 fn false_link(mask: u64, m: usize, x: usize) -> usize
     requires { m ≤ 64 }
     ensures { result ≡ lowest (λ l. not (is_false (assign (listed (has_bit mask) 0 m) x l))) 0 m }

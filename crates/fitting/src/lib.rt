@@ -119,7 +119,7 @@ fn clear_ok(live: u8, ts: &[u8], row: usize, mark: u8, links: &[u8; 64]) -> bool
     true
 }
 
-// No row from n on has a mark. The loop has one end, so that it can take many marks at once.
+// No row from n on has a mark. The loop has one end, so that it can take many marks at once. The marks before row n are not asked here, so it is lent them all.
 fn unmarked_from(marks: &[u8; 256], n: usize) -> bool
     requires { n ≤ 256 }
     ensures { (result ≡ true) ↔ Holds (rest_fit n (λ k. get_or marks.now k 0)) }

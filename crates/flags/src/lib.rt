@@ -18,7 +18,7 @@ pub fn count(flags: &[u8; 256], n: usize) -> usize
     found as usize
 }
 
-// Their numbers, in rising order.
+// Their numbers, in rising order. The place grows at some turns only, so no `enumerate` gives it.
 fn write(flags: &[u8; 256], n: usize, out: &mut [u8])
     requires { (n ≤ 256) × (length (listed (flagged flags.now) 0 n) ≤ length out.old) }
     ensures { out.new ≡ listed (flagged flags.now) 0 n ++ drop (length (listed (flagged flags.now) 0 n)) out.old }

@@ -48,7 +48,7 @@ pub fn undecided(mark: u8) -> bool
     (mark != 2) & (mark != 3)
 }
 
-// A branch of a PICK is open.
+// A branch of a PICK is open. Marks are bytes of a `State`, so they are matched as numbers.
 #[tactic(auto, unfolding(steps::specs::Marks::open_branches, steps::specs::InFront::opens))]
 fn opens(mark: u8, right: bool) -> bool
     ensures { result ≡ opens (open_branches pick mark) right }

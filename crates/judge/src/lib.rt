@@ -60,7 +60,7 @@ fn condition_ok(cs: &[u8], m: usize, row: usize) -> bool
     )
 }
 
-// The lowest condition row that breaks its rule; on the way the links that each row reaches.
+// The lowest condition row that breaks its rule; on the way the links that each row reaches. k where there is none, as `place_of` has it.
 fn bad_condition(m: usize, k: usize, cs: &[u8], masks: &mut [u64; 256]) -> usize
     requires { (k * 4 ≤ length cs.now) × ((k ≤ 256) × ((length masks.old ≡ 256) × Filled 0 (mask_at cs.now) 0 masks.old)) }
     ensures { (result ≡ place_of (conditions m k cs.now)) × (k ≤ result → Filled 0 (mask_at cs.now) k masks.new) }
@@ -173,7 +173,7 @@ fn note_links(notes: Notes, n: usize, row: usize, kind: u8, a: u8, masks: &[u64;
     }
 }
 
-// The lowest term row that breaks its rule, where none before a row does.
+// The lowest term row that breaks its rule, where none before a row does. n where there is none, as `place_of` has it.
 fn bad_term(m: usize, n: usize, k: usize, ts: &[u8], from: usize) -> usize
     requires { (n * 4 ≤ length ts.now) × ((from ≤ n) × Sound m n k ts.now from) }
     ensures { result ≡ place_of (terms m n k ts.now) }
@@ -208,7 +208,7 @@ fn is_compacted(evaluation: u8) -> bool
     (evaluation == 2) | (evaluation == 3)
 }
 
-// The lowest JOIN row that wants a link without a source. The rows are looked at again only if there is such a link.
+// The lowest JOIN row that wants a link without a source. The rows are looked at again only if there is such a link. n where there is none, as `place_of` has it.
 fn unsourced_join(t: &Table, masks: &[u64; 256], notes: Notes) -> usize
     requires { AfterRows (lent_table t.now) masks.now notes }
     ensures { result ≡ place_of (sourced (lent_table t.now)) }

@@ -11,7 +11,7 @@ ghost use Rattle.layout.specs.Bytes.{laid};
 ghost use Rattle.laying.specs.Told.{Tells};
 ghost use Rattle.laying.specs.LaidIn.{LaidIn};
 
-// A row's bytes into an array.
+// A row's bytes into an array, at any place: `scene` puts its FLOW last.
 pub fn put(out: &mut [u8], at: usize, row: [u8; 4])
     requires { (length row ≡ 4) × (at + 4 ≤ length out.old) }
     ensures { out.new ≡ paste out.old at row 4 }
@@ -19,7 +19,7 @@ pub fn put(out: &mut [u8], at: usize, row: [u8; 4])
     out[at..at + 4].copy_from_slice(&row);
 }
 
-// The rank of each row: how many are flagged before it.
+// The rank of each row: how many are flagged before it. The rank grows at some turns only, so no `enumerate` gives it.
 pub fn ranks(flags: &[u8; 256], n: usize) -> [u8; 256]
     requires { n ≤ 256 }
     ensures { Tells (count (flagged flags.now)) 0 n result }
@@ -33,7 +33,7 @@ pub fn ranks(flags: &[u8; 256], n: usize) -> [u8; 256]
     table
 }
 
-// The rows that are flagged, in their old order, into an array, each by its bytes; and how many.
+// The rows that are flagged, in their old order, into an array, each by its bytes; and how many. That number grows at some turns only, so no `enumerate` gives it.
 pub fn lay<F: Fn(usize) -> [u8; 4]>(flags: &[u8; 256], n: usize, row: F, out: &mut [u8]) -> usize
     requires room { (n ≤ 256) × (n * 4 ≤ length out.old) }
     requires asked { (i : ℕ) → i < n → F.pre row i }

@@ -17,7 +17,7 @@ pub struct Page<'a> {
     at: usize,
 }
 
-// The letter of a link's value: u, f or t.
+// The letter of a link's value, a byte of a state: u, f or t.
 #[tactic(auto, unfolding(crate::specs::Lines::letter))]
 fn letter_of(x: u8) -> u8
     ensures { result ≡ letter x }

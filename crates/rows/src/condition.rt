@@ -23,7 +23,7 @@ pub enum ConditionRow {
     Operation(Operator, u8, u8),
 }
 
-// A kind above 6 reads as FALSE.
+// A kind above 6 reads as FALSE. Here alone the byte of a kind becomes an enum.
 #[tactic(auto, unfolding(crate::specs::Conditions::row_of, crate::specs::Conditions::operator_of, sheet::specs::Table::condition_row_by, sheet::specs::Table::operator_of))]
 fn condition_row_by(kind: u8, a: u8, b: u8) -> ConditionRow
     ensures { row_of result ≡ condition_row_by kind a b }

@@ -20,7 +20,7 @@ pub enum TermRow {
 }
 
 impl TermRow {
-    // The only or left child that the row names; 0 for none.
+    // The only or left child that the row names; 0 for none, as `first_of` has it.
     #[tactic(auto, unfolding(steps::specs::Rows::first_of))]
     pub fn first(self) -> u8
         ensures { result ≡ first_of (row_of self) }
@@ -34,7 +34,7 @@ impl TermRow {
         }
     }
 
-    // The right child that it names; 0 for none.
+    // The right child that it names; 0 for none, as `second_of` has it.
     #[tactic(auto, unfolding(steps::specs::Rows::second_of))]
     pub fn second(self) -> u8
         ensures { result ≡ second_of (row_of self) }
@@ -61,7 +61,7 @@ impl TermRow {
     }
 }
 
-// The row that four bytes say. A kind of 6 or more reads as NIL.
+// The row that four bytes say. A kind of 6 or more reads as NIL. Here alone the byte of a kind becomes an enum.
 #[tactic(auto, unfolding(sheet::specs::Table::row_by))]
 pub fn term_by(kind: u8, a: u8, b: u8, c: u8) -> TermRow
     ensures { row_of result ≡ row_by kind a b c }

@@ -52,7 +52,7 @@ fn true_where_unset(values: &[u8; 64]) -> [u8; 64]
     table
 }
 
-// The OUTs of the links of the mask that are not unset, in rising order, from row n on; and the next row. Mask, m and values are no struct: `lay` is lent them one by one, as the contract that showing cites has them.
+// The OUTs of the links of the mask that are not unset, in rising order, from row n on; and the next row, which grows at some turns only, so that no `enumerate` gives it. Mask, m and values are no struct: `lay` is lent them one by one, as the contract that showing cites has them.
 fn outs(mask: u64, m: usize, values: &[u8; 64], out: &mut [u8], n: usize) -> usize
     requires { ((m ≤ 64) × (n + length (listed (has_bit mask) 0 m) < 256)) × ((n + length (listed (has_bit mask) 0 m)) * 4 ≤ length out.old) }
     ensures { LaysOuts (links_in values.now) (listed (has_bit mask) 0 m) n out.old result out.new }

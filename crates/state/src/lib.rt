@@ -15,7 +15,7 @@ pub struct State {
     pub unset: u8,
 }
 
-// What a step is: the activity; the link and its value, 0 or 1; a JOIN opened or cleaned away.
+// What a step is: the activity; the link and its value, 0 or 1 as a line prints it; a JOIN opened or cleaned away.
 #[derive(Clone, Copy)]
 pub enum StepKind {
     Act(u8),

@@ -9,6 +9,7 @@ ghost use Rattle.verdict.specs.Verdict.{verdict_of, Judged};
 use rows::term::{TermRow, term_row};
 use sheet::Table;
 
+// What a sheet is judged to be. No `Option`: `Pass` is an answer, not the lack of one.
 #[derive(Clone, Copy)]
 pub enum Verdict {
     Pass,

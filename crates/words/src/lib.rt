@@ -96,7 +96,7 @@ fn digit_word(base: Base, d: usize, i: usize, x: usize) -> u64
     }
 }
 
-// A word for each link of a mask, in rising order of the links.
+// A word for each link of a mask, in rising order of the links. The digit's place grows at some turns only, so no `enumerate` gives it.
 pub fn words(base: Base, d: usize, mask: u64, m: usize, x: usize) -> [u64; 64]
     requires { (d < base_of base) × ((m ≤ 64) × ((length (listed (has_bit mask) 0 m) ≤ 8) × ((x % 64 ≡ 0) × (x ≤ 6561)))) }
     ensures { Words (base_of base) d (listed (has_bit mask) 0 m) x result }

@@ -23,7 +23,7 @@ pub enum Worth {
     True,
 }
 
-// The byte that is told of a row that waits for no link: links are below 64.
+// The byte that is told of a row that waits for no link: links are below 64. No `Option`, since it is a byte of a lent buffer.
 pub const NO_LINK: u8 = 255;
 
 // A set of condition rows, 64 a word, the highest row first.
@@ -116,7 +116,7 @@ fn awaited(cs: &[u8], row: u8, links: &[u8; 64]) -> u8
     low
 }
 
-// What a row is worth, from a table of values.
+// What a row is worth, from a table of values, which has two bits for each.
 pub fn of_row(vals: &Values, cs: &[u8], row: u8, links: &[u8; 64]) -> Worth
     requires { row * 4 + 4 ≤ length cs.now }
     ensures { result ≡ worth_by (undigit (value_in vals.now row)) (awaited_at cs.now row (links_in links.now)) }
