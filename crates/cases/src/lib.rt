@@ -3,7 +3,7 @@
 
 #![tactic(auto)]
 
-ghost use Rattle.std.specs.Prelude.{◌≤◌};
+ghost use Rattle.std.specs.Prelude.{◌≡◌, ◌≤◌, MatchResult, length};
 
 use sheet::{Head, Refusal, Table};
 use state::{State, StepKind};
@@ -34,10 +34,20 @@ pub struct Said {
     pub y: usize,
 }
 
-// Number and place of a refusal.
+// What a step or a standing says where there is none.
+pub const NOTHING: Said = Said {
+    word: 0,
+    x: 0,
+    y: 0,
+};
+
+// Number and place of a refusal; 0 and 0 where nothing is refused.
 pub type Refused = (u8, usize);
 
-// A file of cases; of each field, nothing where the file ends before.
+// An answer as a case has it: the refusal, and what is answered, which is of zeros where something is refused.
+pub type Told<T> = (Refused, T);
+
+// A file of cases. Where it ends, the bytes of a field are 0, a text is cut short, and a number of four bytes is nothing: number and place of every answer are behind such a number, so that no case agrees that lacks one.
 #[derive(Drop)]
 pub struct Cases<R> {
     file: R,
@@ -48,12 +58,13 @@ impl<R: Read> Cases<R> {
         Cases { file }
     }
 
-    // How many cases agree, and how many there are; a case is told how long its input is, and one that the file ends in does not agree.
+    // How many cases agree, and how many there are; a case is told how long its input is.
     pub fn tally<Agrees: Fn(&mut Cases<R>, usize) -> Option<bool>>(
         &mut self,
         agrees: Agrees,
     ) -> (u64, u64)
         requires { Agrees.IsAlwaysCallable agrees }
+        ensures { result.0 ≤ result.1 }
     {
         let mut agreed = 0;
         for tried in 0..MOST {
@@ -67,56 +78,58 @@ impl<R: Read> Cases<R> {
         (agreed, MOST)
     }
 
-    fn bytes<const N: usize>(&mut self) -> Option<[u8; N]> {
+    fn bytes<const N: usize>(&mut self) -> [u8; N] {
         let mut bytes = [0; N];
-        self.file.read_exact(&mut bytes).ok()?;
-        Some(bytes)
+        filling::fill_until_failure(&mut self.file, &mut bytes);
+        bytes
     }
 
-    pub fn byte(&mut self) -> Option<u8> {
-        Some(self.bytes::<1>()?[0])
+    pub fn byte(&mut self) -> u8 {
+        self.bytes::<1>()[0]
     }
 
-    pub fn two(&mut self) -> Option<usize> {
-        Some(u16::from_le_bytes(self.bytes()?) as usize)
+    pub fn two(&mut self) -> usize {
+        u16::from_le_bytes(self.bytes()) as usize
     }
 
     pub fn four(&mut self) -> Option<usize> {
-        Some(u32::from_le_bytes(self.bytes()?) as usize)
+        let mut bytes = [0; 4];
+        if filling::fill_until_failure(&mut self.file, &mut bytes).len() < 4 {
+            return None;
+        }
+        Some(u32::from_le_bytes(bytes) as usize)
     }
 
     // The next text of that length, at the start of the buffer; nothing is read where it does not fit.
-    pub fn text<'a>(&mut self, size: usize, buffer: &'a mut [u8]) -> Option<&'a [u8]> {
-        if buffer.len() < size {
-            return None;
-        }
-        let text = &mut buffer[..size];
-        self.file.read_exact(text).ok()?;
-        Some(text)
+    pub fn text<'a>(&mut self, size: usize, buffer: &'a mut [u8]) -> &'a [u8]
+        ensures { length result.now ≤ length buffer.old }
+    {
+        let fitting = if buffer.len() < size { 0 } else { size };
+        filling::fill_until_failure(&mut self.file, &mut buffer[..fitting])
     }
 
     pub fn asked(&mut self) -> Option<Asked> {
         Some(Asked {
-            call: self.byte()?,
+            call: self.byte(),
             argument: self.four()?,
             room: self.four()?,
         })
     }
 
     // A state; each of its counts is one byte.
-    pub fn state(&mut self) -> Option<State> {
-        let mode = self.byte()?;
-        let acts = self.byte()?;
-        let unset = self.byte()?;
-        let marks = self.bytes()?;
-        let links = self.bytes()?;
-        Some(State {
+    pub fn state(&mut self) -> State {
+        let mode = self.byte();
+        let acts = self.byte();
+        let unset = self.byte();
+        let marks = self.bytes();
+        let links = self.bytes();
+        State {
             mode,
             marks,
             links,
             acts,
             unset,
-        })
+        }
     }
 
     // A table, its rows in two buffers. Of a form (1 byte) and the length of names (2) this engine's tables know nothing: they are passed over.
@@ -124,54 +137,47 @@ impl<R: Read> Cases<R> {
         &mut self,
         terms: &'a mut [u8; SPACE],
         conditions: &'a mut [u8; SPACE],
-    ) -> Option<Table<'a>> {
-        let evaluation = self.byte()?;
-        let m = self.two()?;
-        let n = self.two()?;
-        let k = self.two()?;
-        self.byte()?;
-        let terms_size = self.two()?;
-        let conditions_size = self.two()?;
-        self.two()?;
-        Some(Table {
+    ) -> Table<'a> {
+        let evaluation = self.byte();
+        let m = self.two();
+        let n = self.two();
+        let k = self.two();
+        self.byte();
+        let terms_size = self.two();
+        let conditions_size = self.two();
+        self.two();
+        Table {
             head: Head {
                 evaluation,
                 m,
                 n,
                 k,
             },
-            terms: self.text(terms_size, terms)?,
-            conditions: self.text(conditions_size, conditions)?,
-        })
-    }
-
-    // Number and place of a refusal; 0 and 0 where nothing is refused.
-    pub fn refusal(&mut self) -> Option<Result<(), Refused>> {
-        match (self.byte()?, self.four()?) {
-            (0, 0) => Some(Ok(())),
-            refused => Some(Err(refused)),
+            terms: self.text(terms_size, terms),
+            conditions: self.text(conditions_size, conditions),
         }
     }
 
+    pub fn refusal(&mut self) -> Option<Refused> {
+        Some((self.byte(), self.four()?))
+    }
+
     // What a call that fills a lent buffer answers; the size is there on refusal too.
-    pub fn size(&mut self) -> Option<Result<usize, Refused>> {
-        let refusal = self.refusal()?;
-        let size = self.four()?;
-        Some(refusal.map(|_| size))
+    pub fn size(&mut self) -> Option<Told<usize>> {
+        Some((self.refusal()?, self.four()?))
     }
 
     // A lent buffer, beside the bytes of the case.
-    pub fn buffer_agrees(&mut self, out: &[u8]) -> Option<bool> {
+    pub fn buffer_agrees(&mut self, out: &[u8]) -> bool {
         let mut buffer = [0; SPACE];
-        let expected = self.text(out.len(), &mut buffer)?;
-        Some(expected == out)
+        self.text(out.len(), &mut buffer) == out
     }
 
     // The answer of a call that fills a lent buffer, with the buffer as the call left it.
     pub fn size_agrees(&mut self, answer: Result<usize, Refusal>, out: &[u8]) -> Option<bool> {
         let expected = self.size()?;
-        let same = self.buffer_agrees(out)?;
-        Some((told(answer) == expected) & same)
+        let same = self.buffer_agrees(out);
+        Some((told(answer, 0) == expected) & same)
     }
 }
 
@@ -186,11 +192,13 @@ pub fn lend(out: &mut [u8], room: usize) -> &mut [u8] {
     &mut out[..room]
 }
 
-// An answer, its refusal by number and place.
-pub fn told<T>(answer: Result<T, Refusal>) -> Result<T, Refused> {
+// An answer as a case has it.
+pub fn told<T: Drop>(answer: Result<T, Refusal>, zeros: T) -> Told<T>
+    ensures { MatchResult answer (λ value. result ≡ ((0, 0), value)) (λ refusal. result ≡ ((refusal.number, refusal.place), zeros)) }
+{
     match answer {
-        Ok(value) => Ok(value),
-        Err(refusal) => Err((refusal.number, refusal.place)),
+        Ok(value) => ((0, 0), value),
+        Err(refusal) => ((refusal.number, refusal.place), zeros),
     }
 }
 

@@ -188,9 +188,7 @@ fn print(rt: &impl Print, x: usize, end: &str) -> io::Result<()> {
 
 fn main(rt: HostRuntime) -> io::Result<()> {
     let mut buffer = [0; 4096];
-    let Ok(input) = filling::fill(&mut rt.stdin(), &mut buffer) else {
-        return Ok(());
-    };
+    let input = filling::fill_until_failure(&mut rt.stdin(), &mut buffer);
     if input.len() < 5 {
         return Ok(());
     }

@@ -2,14 +2,14 @@
 
 #![tactic(auto)]
 
-use cases::{Cases, Refused, Said, first, told};
+use cases::{Cases, NOTHING, Said, first, told};
 use sheet::Table;
 use sheet_engine::Stands;
 use state::State;
 use std::io::Read;
 
-// A word, and how many rows are waited for; or why nothing is told.
-type Told = Result<Said, Refused>;
+// A word, and how many rows are waited for.
+type Told = cases::Told<Said>;
 
 fn counted(word: u8, x: usize) -> Said {
     Said { word, x, y: 0 }
@@ -32,10 +32,11 @@ fn rows_told(length: usize, linked: bool) -> usize {
 
 // An output of that length up to its rows, which follow.
 fn read_told(case: &mut Cases<impl Read>, length: usize, linked: bool) -> Option<Told> {
-    if let Err(refused) = case.refusal()? {
-        return Some(Err(refused));
+    let refused = case.refusal()?;
+    if refused.0 != 0 {
+        return Some((refused, NOTHING));
     }
-    Some(Ok(counted(case.byte()?, rows_told(length, linked))))
+    Some((refused, counted(case.byte(), rows_told(length, linked))))
 }
 
 // The rows and, where the file has them, the link behind each, at the start of two buffers: no state waits for more than 256.
@@ -45,14 +46,13 @@ fn read_rows(
     linked: bool,
     rows: &mut [u8; 256],
     links: &mut [u8; 256],
-) -> Option<()> {
+) {
     for i in 0..count.min(256) {
-        rows[i] = case.byte()?;
+        rows[i] = case.byte();
         if linked {
-            links[i] = case.byte()?;
+            links[i] = case.byte();
         }
     }
-    Some(())
 }
 
 // A call with so much lent: what it answers, and all that the buffer holds after it.
@@ -79,12 +79,12 @@ fn rooms_agree<Call: Fn(&mut [u8]) -> Told>(
 ) -> bool
     requires { Call.IsAlwaysCallable call.now }
 {
-    let rows = expected.map_or(0, |said| said.x);
+    let rows = expected.1.x;
     [room, 256, rows, rows.saturating_sub(1)]
         .iter()
         .all(|room| {
             if *room < rows {
-                call_agrees(call, *room, Err((12, rows)), &[cases::BLANK; 256])
+                call_agrees(call, *room, ((12, rows), NOTHING), &[cases::BLANK; 256])
             } else {
                 call_agrees(call, *room, expected, filled)
             }
@@ -94,25 +94,25 @@ fn rooms_agree<Call: Fn(&mut [u8]) -> Told>(
 // The rest of a case, whose input begins here; each row of its output has its link behind it, or not: without links one of the two calls is tried alone.
 pub fn agrees(case: &mut Cases<impl Read>, linked: bool) -> Option<bool> {
     let asked = case.asked()?;
-    let s = case.state()?;
+    let s = case.state();
     let mut terms = [0; cases::SPACE];
     let mut conditions = [0; cases::SPACE];
-    let t = case.table(&mut terms, &mut conditions)?;
+    let t = case.table(&mut terms, &mut conditions);
     let length = case.four()?;
     let expected = read_told(case, length, linked)?;
-    let count = expected.map_or(0, |said| said.x);
+    let (refused, said) = expected;
     let mut rows = [cases::BLANK; 256];
     let mut links = [cases::BLANK; 256];
-    read_rows(case, count, linked, &mut rows, &mut links)?;
+    read_rows(case, said.x, linked, &mut rows, &mut links);
     let stands = |out: &mut [u8]| {
         let answer = sheet_engine::standing(s, &t, out);
-        told(answer).map(stands_said)
+        told(answer.map(stands_said), NOTHING)
     };
     let waits = |out: &mut [u8]| {
         let answer = sheet_engine::waits_for(s, &t, out);
-        told(answer).map(|size| counted(0, size))
+        told(answer.map(|size| counted(0, size)), NOTHING)
     };
-    let waited = expected.map(|said| counted(0, said.x));
+    let waited = (refused, counted(0, said.x));
     Some(
         (asked.call == 1)
             & rooms_agree(&stands, asked.room, expected, &rows)

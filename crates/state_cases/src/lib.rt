@@ -2,29 +2,31 @@
 
 #![tactic(auto)]
 
-use cases::{Cases, Refused, Said, same_state, step_said, told};
+use cases::{Cases, NOTHING, Said, Told, same_state, step_said, told};
 use engine::Stepped;
 use sheet::{Refusal, Table};
 use state::{State, StepKind};
 use std::io::Read;
 
-// What a step is, in three bytes, where nothing is refused.
-fn read_told(case: &mut Cases<impl Read>) -> Option<Result<Said, Refused>> {
-    if let Err(refused) = case.refusal()? {
-        return Some(Err(refused));
+// What a step is, in three bytes, and the state after it; where the number of a refusal stands, the state is as it was.
+fn read_told(case: &mut Cases<impl Read>, s: State) -> Option<(Told<Said>, State)> {
+    let refused = case.refusal()?;
+    if refused.0 != 0 {
+        return Some(((refused, NOTHING), s));
     }
-    Some(Ok(Said {
-        word: case.byte()?,
-        x: case.byte()? as usize,
-        y: case.byte()? as usize,
-    }))
+    let said = Said {
+        word: case.byte(),
+        x: case.byte() as usize,
+        y: case.byte() as usize,
+    };
+    Some(((refused, said), case.state()))
 }
 
 // Asking for the kind of a step, taking it, and taking it on a lent record answer alike.
 fn step_agrees(case: &mut Cases<impl Read>, s: State, t: Table, row: usize) -> Option<bool> {
-    let expected = read_told(case)?;
-    let after = if expected.is_ok() { case.state()? } else { s };
-    let answered = |answer: Result<StepKind, Refusal>| told(answer).map(step_said) == expected;
+    let (expected, after) = read_told(case, s)?;
+    let answered = |answer: Result<StepKind, Refusal>| told(answer.map(step_said), NOTHING)
+        == expected;
     let left = |next: Stepped| answered(next.answer) & same_state(next.state, after);
     let kind = sheet_engine::step_kind(s, &t, row);
     let taken = sheet_engine::take_step(s, &t, row);
@@ -42,10 +44,10 @@ fn list_agrees(case: &mut Cases<impl Read>, s: State, t: Table, room: usize) -> 
 // The rest of a case, whose input begins here: call 1 lists the steps, call 2 takes one.
 pub fn agrees(case: &mut Cases<impl Read>) -> Option<bool> {
     let asked = case.asked()?;
-    let s = case.state()?;
+    let s = case.state();
     let mut terms = [0; cases::SPACE];
     let mut conditions = [0; cases::SPACE];
-    let t = case.table(&mut terms, &mut conditions)?;
+    let t = case.table(&mut terms, &mut conditions);
     // the length of the output
     case.four()?;
     match asked.call {

@@ -1,5 +1,5 @@
 use Rattle.std.proofs.Common.{◌-◌, ◌≤◌, length}
-use Rattle.filling.proofs.fill.Given as goal
+use Rattle.filling.proofs.read_on.Given as goal
 
 -- what was read lies in the buffer
 abbrev pub invariant-loop-size : goal.invariant-loop-size
