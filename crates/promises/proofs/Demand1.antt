@@ -182,7 +182,7 @@ pub give_verdict_answers : (t : Table) → Answered no (Ok (verdict_of t)) (tabl
 unfolding verdict_answer
 give_verdict_answers t = answered no (Ok (verdict_of t)) (table_checks t)
 
--- `start`: a fresh state; beside a refusal a state of zeros
+-- `start`: a fresh state; of a refusal the values have a state of zeros (`begin_answers`, `sheet_engine/proofs/Values`)
 pub start_answers : (t : Table) (mode : ℕ) → Answered no (Ok (start_of t mode)) (start_checks t mode) (start_answer t mode)
 unfolding start_answer
 start_answers t mode = answered no (Ok (start_of t mode)) (start_checks t mode)

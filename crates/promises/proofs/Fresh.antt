@@ -1,10 +1,11 @@
 -- Runs of the calls from a fresh start, where the verdict is pass. Assumes nothing.
-use Rattle.std.specs.Prelude.{Ok}
+use Rattle.std.specs.Prelude.{Result, Ok}
 use Prim.Native.Nat.{ℕ, ◌≤◌}
 use mathlib.Core.Path.{◌≡◌, refl, sym, ◌∙◌, ap, subst, subst₂}
 use mathlib.Core.List.{List}
 use native.Mathlib.Omega.{arith}
 use Rattle.sheet.specs.Table.{Table}
+use Rattle.sheet.specs.declared.Refusal.{Refusal}
 use Rattle.sheet.specs.Rules.{refusal_of}
 use Rattle.state.specs.declared.State.{State}
 use Rattle.moves.specs.Steps.{start_of}
@@ -13,9 +14,10 @@ use Rattle.moves.specs.Runs.{Run as Steps, taken as steps_taken, last as last_st
 use Rattle.moves.proofs.Fits.{fresh_sized, fresh_fits}
 use Rattle.verdict.specs.declared.Verdict.TheVariants.{Pass}
 use Rattle.sheet_engine.specs.Answers.{verdict_answer, start_answer}
+use Rattle.sheet_engine.specs.Values.{start_values}
 use Rattle.sheet_engine.proofs.Calls.{start_fresh}
 use Rattle.sheet_engine.proofs.Promises.{pass_answered, pass_demand_3}
-use Rattle.promises.specs.Calls.{Accepted, fresh_in, Run, taken, last, handed_out}
+use Rattle.promises.specs.Calls.{Accepted, fresh_in, Run, taken, last}
 use Rattle.promises.proofs.Calls.{to_steps, from_steps, run_keeps}
 
 -- an accepted table is started in either mode
@@ -24,7 +26,7 @@ module _ (t : Table) (accepted : (refusal_of t).number ≡ 0) (mode : ℕ) (h : 
   is_started = sym (start_fresh t (refusal_of t) refl mode accepted h (start_of t mode) refl)
 
   pub is_fresh : fresh_in t mode ≡ start_of t mode
-  is_fresh = ap handed_out is_started
+  is_fresh = ap (λ (a : Result State Refusal). (start_values a).state) is_started
 
   pub fresh_state : Accepted t (start_of t mode)
   fresh_state = record { table = accepted; mode = h; fits = fresh_fits t mode; sized = fresh_sized t mode }

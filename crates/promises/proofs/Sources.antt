@@ -14,7 +14,7 @@ use Rattle.laws.proofs.Checks.{checked_map, all_hold}
 use Rattle.sheet.specs.declared.Head.{Head}
 use Rattle.sheet.specs.declared.Refusal.{Refusal}
 use Rattle.sheet.specs.Table.{Table, table_of}
-use Rattle.sheet.specs.Rules.{sourced, from8, table_checks, refuse, no, as_refusal, refusal_of}
+use Rattle.sheet.specs.Rules.{sourced, from8, table_checks, refuse, no, as_refusal, refusal_of, judged}
 use Rattle.sheet.specs.Accepted.{Sourced, UnsourcedJoin}
 use Rattle.sheet.specs.Sheet.{sheet_size, contents, table_in}
 use Rattle.sheet.proofs.Accepted.{meets, sourced_joins, all_sourced, row_unsourced}
@@ -23,8 +23,8 @@ use Rattle.codec.specs.Answers.{read_of, write_of}
 use Rattle.state.specs.declared.State.{State}
 use Rattle.moves.specs.Steps.{start_of}
 use Rattle.sheet_engine.specs.Answers.{verdict_answer, start_checks, start_answer, list_answer, standing_answer, waits_answer, kind_answer, step_answer, compact_answer, damage_answer}
-use Rattle.sheet_engine.specs.Values.{VerdictValues, verdict_values, SheetValues, sheet_values, SizeValues, size_values, StandingValues, standing_values, StepValues, step_values, Answers}
-use Rattle.sheet_engine.proofs.Values.{all_held, read_answers, write_answers, verdict_answers, list_answers, standing_answers, waits_answers, kind_answers, step_answers, compact_answers, damage_answers}
+use Rattle.sheet_engine.specs.Values.{VerdictValues, verdict_values, SheetValues, sheet_values, JudgeValues, judge_values, SizeValues, size_values, StandingValues, standing_values, StepValues, step_values, Answers}
+use Rattle.sheet_engine.proofs.Values.{all_held, read_answers, judge_answers, write_answers, verdict_answers, list_answers, standing_answers, waits_answers, kind_answers, step_answers, compact_answers, damage_answers}
 use Rattle.promises.specs.Sources.{up_to7, Thirteen}
 use Rattle.promises.proofs.Refused.{place_fails, refused_there, one_out, first_fails, Reads, values_told}
 
@@ -84,9 +84,14 @@ module _ (t : Table) (place : ℕ) where
     of_call : Answers number refused good (up_to7 t ++ (sourced t ∷ after)) a → Reads number at refused → without 13 after ≡ true → ((number a ≡ 13) × (at a ≡ place)) ↔ Thirteen t place
     of_call answers is w = Iff.trans (values_told number at answers is 13 place (λ z. omega arith)) (of_table after w)
 
-  pub judge_table_13 : (refusal_of t ≡ refuse 13 place) ↔ Thirteen t place
+  -- ... the refusal of a table, which is what `judge_table` answers (`judge_tells`)
+  pub table_13 : (refusal_of t ≡ refuse 13 place) ↔ Thirteen t place
   unfolding refusal_of without
-  judge_table_13 = of_table (from8 t) refl
+  table_13 = of_table (from8 t) refl
+
+  pub judge_table_13 : (((judge_values (judged t)).refusal ≡ 13) × ((judge_values (judged t)).place ≡ place)) ↔ Thirteen t place
+  unfolding without
+  judge_table_13 = of_call (λ (v : JudgeValues). v.refusal) (λ v. v.place) _ (judge_answers t) (λ n p. (refl, refl)) refl
 
   pub give_verdict_13 : (((verdict_values (verdict_answer t)).refusal ≡ 13) × ((verdict_values (verdict_answer t)).place ≡ place)) ↔ Thirteen t place
   unfolding without

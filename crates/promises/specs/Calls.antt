@@ -10,12 +10,11 @@ use Rattle.sheet.specs.Table.{Table, eval_in}
 use Rattle.sheet.specs.declared.Refusal.{Refusal}
 use Rattle.sheet.specs.Rules.{refusal_of, judged}
 use Rattle.state.specs.declared.State.{State}
-use Rattle.state.specs.State.{fresh_of}
 use Rattle.moves.specs.Steps.{mode_of, links_of, Sized, left_in}
 use Rattle.moves.specs.Fits.{Fits}
 use Rattle.moves.specs.Runs.{Taken}
 use Rattle.sheet_engine.specs.Answers.{verdict_answer, start_answer, list_answer, list_buffer, standing_answer, standing_buffer, waits_answer, waits_buffer, kind_answer, step_answer, compact_answer, compact_buffer, damage_answer, damage_buffer}
-use Rattle.sheet_engine.specs.Values.{VerdictValues, verdict_values, StandingValues, standing_values}
+use Rattle.sheet_engine.specs.Values.{VerdictValues, verdict_values, start_values, StandingValues, standing_values}
 
 -- A table and a state that a call with both does not refuse: none of 1 to 10 and 13 fails, and the state is of the right size. Whoever is answered by one knows all of it from the contract of the call (`list_accepts`, `standing_accepts`, `waits_accepts`, `kind_accepts`, `take_accepts`, `in_place_accepts`, `compact_accepts`).
 pub record Accepted (t : Table) (s : State) : Type 0 where
@@ -52,13 +51,9 @@ pub record SameAnswers (t t' : Table) : Type 0 where
   pub damage : (row lent : ℕ) → damage_answer t row lent ≡ damage_answer t' row lent
   pub shown : (row : ℕ) (lent : List ℕ) → damage_buffer t row lent ≡ damage_buffer t' row lent
 
--- "started fresh": the state that `start` hands out; zeros where it refuses
-abbrev pub handed_out : Result State Refusal → State
-handed_out (Ok s) = s
-handed_out (Err e) = fresh_of 0
-
+-- "started fresh": the state that `start` hands out; of a refusal the values have one of zeros
 abbrev pub fresh_in : Table → ℕ → State
-fresh_in t mode = handed_out (start_answer t mode)
+fresh_in t mode = (start_values (start_answer t mode)).state
 
 -- a link as the state's byte: 0 unset, 1 false, 2 true
 abbrev pub link : State → ℕ → ℕ

@@ -13,6 +13,7 @@ use Rattle.failure.specs.Failure.{links_at}
 use Rattle.verdict.specs.declared.Verdict.{Verdict}
 use Rattle.verdict.specs.declared.Verdict.TheVariants.{Pass, Fail}
 use Rattle.state.specs.declared.State.{State}
+use Rattle.state.specs.State.{fresh_of}
 use Rattle.state.specs.declared.StepKind.TheVariants as kind
 use Rattle.moves.specs.Steps.{Kind, links_of, kind_at, has_step, stepped_of}
 use Rattle.engine.specs.declared.Stepped.{Stepped}
@@ -58,6 +59,25 @@ pub record SheetValues : Type 0 where
 abbrev pub sheet_values : Result Head Refusal → SheetValues
 sheet_values (Ok h) = record { refusal = 0; place = 0; evaluation = h.evaluation; m = h.m; n = h.n; k = h.k }
 sheet_values (Err e) = record { refusal = e.number; place = e.place; evaluation = 0; m = 0; n = 0; k = 0 }
+
+-- number and place of the refusal
+pub record JudgeValues : Type 0 where
+  pub refusal : ℕ
+  pub place : ℕ
+
+abbrev pub judge_values : Result (Unit {0}) Refusal → JudgeValues
+judge_values (Ok u) = record { refusal = 0; place = 0 }
+judge_values (Err e) = record { refusal = e.number; place = e.place }
+
+-- number and place of the refusal; the fresh state, and beside a refusal one of zeros
+pub record StartValues : Type 0 where
+  pub refusal : ℕ
+  pub place : ℕ
+  pub state : State
+
+abbrev pub start_values : Result State Refusal → StartValues
+start_values (Ok s) = record { refusal = 0; place = 0; state = s }
+start_values (Err e) = record { refusal = e.number; place = e.place; state = fresh_of 0 }
 
 -- number and place of the refusal; the size
 pub record SizeValues : Type 0 where

@@ -199,12 +199,14 @@ pub fn take_step(s: State, t: &Table, row: usize) -> Stepped
     }
 }
 
-// Taking a step on the caller's own state: the record is the state after the step, or as it was.
+// Taking a step on the caller's own state: the record is stored where a step was taken, else left as it was.
 pub fn step_in_place(state: &mut State, t: &Table, row: usize) -> Result<StepKind, Refusal>
     ensures { (result ≡ (step_answer (lent_table t.now) state.old row).answer) × (state.new ≡ (step_answer (lent_table t.now) state.old row).state) × Sized state.old }
 {
     let next = take_step(*state, t, row);
-    *state = next.state;
+    if next.answer.is_ok() {
+        *state = next.state;
+    }
     next.answer
 }
 
