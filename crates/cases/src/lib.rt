@@ -3,11 +3,14 @@
 
 #![tactic(auto)]
 
-ghost use Rattle.std.specs.Prelude.{◌≡◌, ◌≤◌, MatchResult, length};
+ghost use Rattle.std.specs.Prelude.{◌≡◌, ◌<◌, ◌≤◌, MatchResult, length};
 
 use sheet::{Head, Refusal, Table};
 use state::{State, StepKind};
 use std::io::Read;
+
+// The file has ended: no number of four bytes is this great.
+pub const END: usize = 4294967296;
 
 // More than the rows of any table take, and more than any case lends.
 pub const SPACE: usize = 8192;
@@ -47,7 +50,7 @@ pub type Refused = (u8, usize);
 // An answer as a case has it: the refusal, and what is answered, which is of zeros where something is refused.
 pub type Told<T> = (Refused, T);
 
-// A file of cases. Where it ends, the bytes of a field are 0, a text is cut short, and a number of four bytes is nothing: number and place of every answer are behind such a number, so that no case agrees that lacks one.
+// A file of cases. Where it ends, the bytes of a field are 0, a text is cut short, and a number of four bytes is END.
 #[derive(Drop)]
 pub struct Cases<R> {
     file: R,
@@ -59,19 +62,16 @@ impl<R: Read> Cases<R> {
     }
 
     // How many cases agree, and how many there are; a case is told how long its input is.
-    pub fn tally<Agrees: Fn(&mut Cases<R>, usize) -> Option<bool>>(
-        &mut self,
-        agrees: Agrees,
-    ) -> (u64, u64)
+    pub fn tally<Agrees: Fn(&mut Cases<R>, usize) -> bool>(&mut self, agrees: Agrees) -> (u64, u64)
         requires { Agrees.IsAlwaysCallable agrees }
         ensures { result.0 ≤ result.1 }
     {
         let mut agreed = 0;
         for tried in 0..MOST {
-            let Some(size) = self.four() else {
+            let Some(size) = self.length() else {
                 return (agreed, tried);
             };
-            if agrees(self, size).unwrap_or(false) {
+            if agrees(self, size) {
                 agreed += 1;
             }
         }
@@ -92,12 +92,17 @@ impl<R: Read> Cases<R> {
         u16::from_le_bytes(self.bytes()) as usize
     }
 
-    pub fn four(&mut self) -> Option<usize> {
+    // Nothing where the file ends before.
+    fn length(&mut self) -> Option<usize> {
         let mut bytes = [0; 4];
         if filling::fill_until_failure(&mut self.file, &mut bytes).len() < 4 {
             return None;
         }
         Some(u32::from_le_bytes(bytes) as usize)
+    }
+
+    pub fn four(&mut self) -> usize {
+        self.length().unwrap_or(END)
     }
 
     // The next text of that length, at the start of the buffer; nothing is read where it does not fit.
@@ -108,12 +113,12 @@ impl<R: Read> Cases<R> {
         filling::fill_until_failure(&mut self.file, &mut buffer[..fitting])
     }
 
-    pub fn asked(&mut self) -> Option<Asked> {
-        Some(Asked {
+    pub fn asked(&mut self) -> Asked {
+        Asked {
             call: self.byte(),
-            argument: self.four()?,
-            room: self.four()?,
-        })
+            argument: self.four(),
+            room: self.four(),
+        }
     }
 
     // A state; each of its counts is one byte.
@@ -158,13 +163,13 @@ impl<R: Read> Cases<R> {
         }
     }
 
-    pub fn refusal(&mut self) -> Option<Refused> {
-        Some((self.byte(), self.four()?))
+    pub fn refusal(&mut self) -> Refused {
+        (self.byte(), self.four())
     }
 
     // What a call that fills a lent buffer answers; the size is there on refusal too.
-    pub fn size(&mut self) -> Option<Told<usize>> {
-        Some((self.refusal()?, self.four()?))
+    pub fn size(&mut self) -> Told<usize> {
+        (self.refusal(), self.four())
     }
 
     // A lent buffer, beside the bytes of the case.
@@ -174,10 +179,10 @@ impl<R: Read> Cases<R> {
     }
 
     // The answer of a call that fills a lent buffer, with the buffer as the call left it.
-    pub fn size_agrees(&mut self, answer: Result<usize, Refusal>, out: &[u8]) -> Option<bool> {
-        let expected = self.size()?;
+    pub fn size_agrees(&mut self, answer: Result<usize, Refusal>, out: &[u8]) -> bool {
+        let expected = self.size();
         let same = self.buffer_agrees(out);
-        Some((told(answer, 0) == expected) & same)
+        (told(answer, 0) == expected) & same
     }
 }
 
@@ -203,7 +208,9 @@ pub fn told<T: Drop>(answer: Result<T, Refusal>, zeros: T) -> Told<T>
 }
 
 // What a step is: the words are 1 act, 2 set, 3 open, 4 clean.
-pub fn step_said(step: StepKind) -> Said {
+pub fn step_said(step: StepKind) -> Said
+    ensures { (0 < result.word) × (result.word ≤ 4) }
+{
     let (word, x, y) = match step {
         StepKind::Act(activity) => (1, activity, 0),
         StepKind::Set(link, value) => (2, link, value),

@@ -25,32 +25,30 @@ fn made_again(sheet: &[u8], s: State) -> bool {
     }
 }
 
-fn compact_agrees(case: &mut Cases<impl Read>, s: State, t: Table, room: usize) -> Option<bool> {
+fn compact_agrees(case: &mut Cases<impl Read>, s: State, t: Table, room: usize) -> bool {
     let mut buffer = [cases::BLANK; cases::SPACE];
     let out = cases::lend(&mut buffer, room);
     let made = sheet_engine::compact(s, &t, out);
-    let expected = case.size()?;
+    let expected = case.size();
     let same = case.buffer_agrees(out);
     let ((number, _), _) = expected;
     let after = if number == 0 { case.state() } else { s };
-    Some(
-        (told(made.answer, 0) == expected)
-            & same
-            & same_state(made.state, after)
-            & made
-                .answer
-                .map_or(true, |size| made_again(first(out, size), made.state)),
-    )
+    (told(made.answer, 0) == expected)
+        & same
+        & same_state(made.state, after)
+        & made
+            .answer
+            .map_or(true, |size| made_again(first(out, size), made.state))
 }
 
 // The rest of a case, whose input begins here.
-pub fn agrees(case: &mut Cases<impl Read>) -> Option<bool> {
-    let asked = case.asked()?;
+pub fn agrees(case: &mut Cases<impl Read>) -> bool {
+    let asked = case.asked();
     let s = case.state();
     let mut terms = [0; cases::SPACE];
     let mut conditions = [0; cases::SPACE];
     let t = case.table(&mut terms, &mut conditions);
     // the length of the output
-    case.four()?;
-    Some((asked.call == 1) & compact_agrees(case, s, t, asked.room)?)
+    case.four();
+    (asked.call == 1) & compact_agrees(case, s, t, asked.room)
 }

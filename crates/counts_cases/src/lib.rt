@@ -41,37 +41,37 @@ fn started(mode: u8, t: Table, rows: &[u8], counts: &[u8]) -> (Refused, bool) {
 }
 
 // A run: its rows and its table; as output number and place, which take 5 bytes, then two counts for each state. A number that is no byte is no mode, as is 255.
-fn run_agrees(case: &mut Cases<impl Read>, argument: usize) -> Option<bool> {
+fn run_agrees(case: &mut Cases<impl Read>, argument: usize) -> bool {
     let size = case.two();
     let mut chosen = [0; RUN];
     let rows = case.text(size, &mut chosen);
     let mut terms = [0; cases::SPACE];
     let mut conditions = [0; cases::SPACE];
     let t = case.table(&mut terms, &mut conditions);
-    let length = case.four()?;
-    let refusal = case.refusal()?;
+    let length = case.four();
+    let refusal = case.refusal();
     let mut told = [0; RUN];
     let counts = case.text(length.saturating_sub(5), &mut told);
     let mode = u8::try_from(argument).unwrap_or(255);
-    Some(started(mode, t, rows, counts) == (refusal, true))
+    started(mode, t, rows, counts) == (refusal, true)
 }
 
 // No call of these is refused.
-fn questions_agree(case: &mut Cases<impl Read>) -> Option<bool> {
+fn questions_agree(case: &mut Cases<impl Read>) -> bool {
     let s = case.state();
     // the length of the output
-    case.four()?;
-    let refusal = case.refusal()?;
+    case.four();
+    let refusal = case.refusal();
     let counts = [case.byte(), case.byte()];
-    Some((refusal == (0, 0)) & counts_agree(s, &counts))
+    (refusal == (0, 0)) & counts_agree(s, &counts)
 }
 
 // The rest of a case, whose input begins here.
-pub fn agrees(case: &mut Cases<impl Read>) -> Option<bool> {
-    let asked = case.asked()?;
+pub fn agrees(case: &mut Cases<impl Read>) -> bool {
+    let asked = case.asked();
     match asked.call {
         1 => run_agrees(case, asked.argument),
         2 => questions_agree(case),
-        _ => Some(false),
+        _ => false,
     }
 }

@@ -45,21 +45,21 @@ fn shows(sheet: &[u8]) -> bool {
     (done(1, t) == Some(12)) & (done(0, t) == Some(1))
 }
 
-fn damage_agrees(case: &mut Cases<impl Read>, t: Table, row: usize, room: usize) -> Option<bool> {
+fn damage_agrees(case: &mut Cases<impl Read>, t: Table, row: usize, room: usize) -> bool {
     let mut buffer = [cases::BLANK; cases::SPACE];
     let out = cases::lend(&mut buffer, room);
     let answer = sheet_engine::damage_sheet(&t, row, out);
-    let same = case.size_agrees(answer, out)?;
-    Some(same & answer.map_or(true, |size| shows(first(out, size))))
+    let same = case.size_agrees(answer, out);
+    same & answer.map_or(true, |size| shows(first(out, size)))
 }
 
 // The rest of a case, whose input begins here.
-pub fn agrees(case: &mut Cases<impl Read>) -> Option<bool> {
-    let asked = case.asked()?;
+pub fn agrees(case: &mut Cases<impl Read>) -> bool {
+    let asked = case.asked();
     let mut terms = [0; cases::SPACE];
     let mut conditions = [0; cases::SPACE];
     let t = case.table(&mut terms, &mut conditions);
     // the length of the output
-    case.four()?;
-    Some((asked.call == 1) & damage_agrees(case, t, asked.argument, asked.room)?)
+    case.four();
+    (asked.call == 1) & damage_agrees(case, t, asked.argument, asked.room)
 }

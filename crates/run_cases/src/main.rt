@@ -24,18 +24,18 @@ enum Kind {
 }
 
 // The rest of a case of the program, whose input begins here.
-fn program_agrees(case: &mut Cases<impl Read>, size: usize) -> Option<bool> {
+fn program_agrees(case: &mut Cases<impl Read>, size: usize) -> bool {
     let mut given = [0; TEXT];
     let input = case.text(size, &mut given);
-    let told = case.four()?;
+    let told = case.four();
     let mut wanted = [0; TEXT];
     let expected = case.text(told, &mut wanted);
     let mut out = [0; printing::LONGEST];
     let length = printing::print(input, &mut out);
-    Some(&out[..length] == expected)
+    &out[..length] == expected
 }
 
-fn agrees(case: &mut Cases<impl Read>, size: usize, kind: Kind) -> Option<bool> {
+fn agrees(case: &mut Cases<impl Read>, size: usize, kind: Kind) -> bool {
     match kind {
         Kind::Program => program_agrees(case, size),
         Kind::States => state_cases::agrees(case),

@@ -8,7 +8,7 @@ use sheet_engine::Stands;
 use state::State;
 use std::io::Read;
 
-// A word, and how many rows are waited for.
+// The refusal; a word, and how many rows are waited for.
 type Told = cases::Told<Said>;
 
 fn counted(word: u8, x: usize) -> Said {
@@ -31,12 +31,12 @@ fn rows_told(length: usize, linked: bool) -> usize {
 }
 
 // An output of that length up to its rows, which follow.
-fn read_told(case: &mut Cases<impl Read>, length: usize, linked: bool) -> Option<Told> {
-    let refused = case.refusal()?;
+fn read_told(case: &mut Cases<impl Read>, length: usize, linked: bool) -> Told {
+    let refused = case.refusal();
     if refused.0 != 0 {
-        return Some((refused, NOTHING));
+        return (refused, NOTHING);
     }
-    Some((refused, counted(case.byte(), rows_told(length, linked))))
+    (refused, counted(case.byte(), rows_told(length, linked)))
 }
 
 // The rows and, where the file has them, the link behind each, at the start of two buffers: no state waits for more than 256.
@@ -92,14 +92,14 @@ fn rooms_agree<Call: Fn(&mut [u8]) -> Told>(
 }
 
 // The rest of a case, whose input begins here; each row of its output has its link behind it, or not: without links one of the two calls is tried alone.
-pub fn agrees(case: &mut Cases<impl Read>, linked: bool) -> Option<bool> {
-    let asked = case.asked()?;
+pub fn agrees(case: &mut Cases<impl Read>, linked: bool) -> bool {
+    let asked = case.asked();
     let s = case.state();
     let mut terms = [0; cases::SPACE];
     let mut conditions = [0; cases::SPACE];
     let t = case.table(&mut terms, &mut conditions);
-    let length = case.four()?;
-    let expected = read_told(case, length, linked)?;
+    let length = case.four();
+    let expected = read_told(case, length, linked);
     let (refused, said) = expected;
     let mut rows = [cases::BLANK; 256];
     let mut links = [cases::BLANK; 256];
@@ -113,9 +113,7 @@ pub fn agrees(case: &mut Cases<impl Read>, linked: bool) -> Option<bool> {
         told(answer.map(|size| counted(0, size)), NOTHING)
     };
     let waited = (refused, counted(0, said.x));
-    Some(
-        (asked.call == 1)
-            & rooms_agree(&stands, asked.room, expected, &rows)
-            & (!linked || rooms_agree(&waits, asked.room, waited, &links)),
-    )
+    (asked.call == 1)
+        & rooms_agree(&stands, asked.room, expected, &rows)
+        & (!linked || rooms_agree(&waits, asked.room, waited, &links))
 }

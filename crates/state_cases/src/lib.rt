@@ -9,32 +9,32 @@ use state::{State, StepKind};
 use std::io::Read;
 
 // What a step is, in three bytes, and the state after it; where the number of a refusal stands, the state is as it was.
-fn read_told(case: &mut Cases<impl Read>, s: State) -> Option<(Told<Said>, State)> {
-    let refused = case.refusal()?;
+fn read_told(case: &mut Cases<impl Read>, s: State) -> (Told<Said>, State) {
+    let refused = case.refusal();
     if refused.0 != 0 {
-        return Some(((refused, NOTHING), s));
+        return ((refused, NOTHING), s);
     }
     let said = Said {
         word: case.byte(),
         x: case.byte() as usize,
         y: case.byte() as usize,
     };
-    Some(((refused, said), case.state()))
+    ((refused, said), case.state())
 }
 
 // Asking for the kind of a step, taking it, and taking it on a lent record answer alike.
-fn step_agrees(case: &mut Cases<impl Read>, s: State, t: Table, row: usize) -> Option<bool> {
-    let (expected, after) = read_told(case, s)?;
+fn step_agrees(case: &mut Cases<impl Read>, s: State, t: Table, row: usize) -> bool {
+    let (expected, after) = read_told(case, s);
     let answered = |answer: Result<StepKind, Refusal>| told(answer.map(step_said), NOTHING)
         == expected;
     let left = |next: Stepped| answered(next.answer) & same_state(next.state, after);
     let kind = sheet_engine::step_kind(s, &t, row);
     let taken = sheet_engine::take_step(s, &t, row);
     let placed = lent::step_lent(s, &t, row);
-    Some(answered(kind) & left(taken) & left(placed))
+    answered(kind) & left(taken) & left(placed)
 }
 
-fn list_agrees(case: &mut Cases<impl Read>, s: State, t: Table, room: usize) -> Option<bool> {
+fn list_agrees(case: &mut Cases<impl Read>, s: State, t: Table, room: usize) -> bool {
     let mut buffer = [cases::BLANK; cases::SPACE];
     let out = cases::lend(&mut buffer, room);
     let answer = sheet_engine::list_steps(s, &t, out);
@@ -42,17 +42,17 @@ fn list_agrees(case: &mut Cases<impl Read>, s: State, t: Table, room: usize) -> 
 }
 
 // The rest of a case, whose input begins here: call 1 lists the steps, call 2 takes one.
-pub fn agrees(case: &mut Cases<impl Read>) -> Option<bool> {
-    let asked = case.asked()?;
+pub fn agrees(case: &mut Cases<impl Read>) -> bool {
+    let asked = case.asked();
     let s = case.state();
     let mut terms = [0; cases::SPACE];
     let mut conditions = [0; cases::SPACE];
     let t = case.table(&mut terms, &mut conditions);
     // the length of the output
-    case.four()?;
+    case.four();
     match asked.call {
         1 => list_agrees(case, s, t, asked.room),
         2 => step_agrees(case, s, t, asked.argument),
-        _ => Some(false),
+        _ => false,
     }
 }

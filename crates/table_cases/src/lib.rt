@@ -75,21 +75,21 @@ fn others_agree(answer: Result<usize, Refusal>, out: &[u8], t: Table) -> bool {
         & answer.map_or(true, |size| written_agrees(out, size, t))
 }
 
-fn write_agrees(case: &mut Cases<impl Read>, t: Table, room: usize) -> Option<bool> {
+fn write_agrees(case: &mut Cases<impl Read>, t: Table, room: usize) -> bool {
     let mut buffer = [cases::BLANK; cases::SPACE];
     let out = cases::lend(&mut buffer, room);
     let answer = sheet_engine::write_sheet(&t, out);
-    let same = case.size_agrees(answer, out)?;
-    Some(same & others_agree(answer, out, t))
+    let same = case.size_agrees(answer, out);
+    same & others_agree(answer, out, t)
 }
 
 // The rest of a case, whose input begins here.
-pub fn agrees(case: &mut Cases<impl Read>) -> Option<bool> {
-    let asked = case.asked()?;
+pub fn agrees(case: &mut Cases<impl Read>) -> bool {
+    let asked = case.asked();
     let mut terms = [0; cases::SPACE];
     let mut conditions = [0; cases::SPACE];
     let t = case.table(&mut terms, &mut conditions);
     // the length of the output
-    case.four()?;
-    Some((asked.call == 1) & write_agrees(case, t, asked.room)?)
+    case.four();
+    (asked.call == 1) & write_agrees(case, t, asked.room)
 }
