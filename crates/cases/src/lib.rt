@@ -137,6 +137,13 @@ impl<R: Read> Cases<R> {
         }
     }
 
+    // The state that has to come back: that of the case; where something is refused, the one that was handed in.
+    pub fn state_after(&mut self, number: u8, s: State) -> State
+        ensures { (number ≡ 0 → ⊥) → result ≡ s }
+    {
+        if number == 0 { self.state() } else { s }
+    }
+
     // A table, its rows in two buffers. Of a form (1 byte) and the length of names (2) this engine's tables know nothing: they are passed over.
     pub fn table<'a>(
         &mut self,

@@ -32,7 +32,7 @@ fn compact_agrees(case: &mut Cases<impl Read>, s: State, t: Table, room: usize) 
     let expected = case.size();
     let same = case.buffer_agrees(out);
     let ((number, _), _) = expected;
-    let after = if number == 0 { case.state() } else { s };
+    let after = case.state_after(number, s);
     (told(made.answer, 0) == expected)
         & same
         & same_state(made.state, after)

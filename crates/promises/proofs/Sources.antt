@@ -18,13 +18,13 @@ use Rattle.sheet.specs.Rules.{sourced, from8, table_checks, refuse, no, as_refus
 use Rattle.sheet.specs.Accepted.{Sourced, UnsourcedJoin}
 use Rattle.sheet.specs.Sheet.{sheet_size, contents, table_in}
 use Rattle.sheet.proofs.Accepted.{meets, sourced_joins, all_sourced, row_unsourced}
-use Rattle.sheet.proofs.Refusals.{without}
+use Rattle.sheet.proofs.Refusals.{without, judge_tells}
 use Rattle.codec.specs.Answers.{read_of, write_of}
 use Rattle.state.specs.declared.State.{State}
 use Rattle.moves.specs.Steps.{start_of}
 use Rattle.sheet_engine.specs.Answers.{verdict_answer, start_checks, start_answer, list_answer, standing_answer, waits_answer, kind_answer, step_answer, compact_answer, damage_answer}
-use Rattle.sheet_engine.specs.Values.{VerdictValues, verdict_values, SheetValues, sheet_values, JudgeValues, judge_values, SizeValues, size_values, StandingValues, standing_values, StepValues, step_values, Answers}
-use Rattle.sheet_engine.proofs.Values.{all_held, read_answers, judge_answers, write_answers, verdict_answers, list_answers, standing_answers, waits_answers, kind_answers, step_answers, compact_answers, damage_answers}
+use Rattle.sheet_engine.specs.Values.{VerdictValues, verdict_values, SheetValues, sheet_values, SizeValues, size_values, StandingValues, standing_values, StepValues, step_values, Answers}
+use Rattle.sheet_engine.proofs.Values.{all_held, read_answers, write_answers, verdict_answers, list_answers, standing_answers, waits_answers, kind_answers, step_answers, compact_answers, damage_answers}
 use Rattle.promises.specs.Sources.{up_to7, Thirteen}
 use Rattle.promises.proofs.Refused.{place_fails, refused_there, one_out, first_fails, Reads, values_told}
 
@@ -89,9 +89,8 @@ module _ (t : Table) (place : ℕ) where
   unfolding refusal_of without
   table_13 = of_table (from8 t) refl
 
-  pub judge_table_13 : (((judge_values (judged t)).refusal ≡ 13) × ((judge_values (judged t)).place ≡ place)) ↔ Thirteen t place
-  unfolding without
-  judge_table_13 = of_call (λ (v : JudgeValues). v.refusal) (λ v. v.place) _ (judge_answers t) (λ n p. (refl, refl)) refl
+  pub judge_table_13 : (as_refusal (judged t) ≡ refuse 13 place) ↔ Thirteen t place
+  judge_table_13 = rw (judge_tells t) table_13
 
   pub give_verdict_13 : (((verdict_values (verdict_answer t)).refusal ≡ 13) × ((verdict_values (verdict_answer t)).place ≡ place)) ↔ Thirteen t place
   unfolding without

@@ -2,7 +2,7 @@
 
 #![tactic(auto)]
 
-ghost use Rattle.std.specs.Prelude.{◌<◌};
+ghost use Rattle.std.specs.Prelude.{◌≡◌, ◌<◌, replicate};
 
 // The rows of a table, of which a table may have fewer.
 #[derive(Clone, Copy)]
@@ -38,7 +38,9 @@ fn largest_term(row: u8) -> [u8; 4]
 }
 
 impl Sample {
-    pub fn new() -> Sample {
+    pub fn new() -> Sample
+        ensures { (result.terms ≡ replicate 256 (replicate 4 0)) × (result.conditions ≡ replicate 256 (replicate 4 0)) }
+    {
         Sample {
             terms: [[0; 4]; 256],
             conditions: [[0; 4]; 256],

@@ -5,7 +5,7 @@ use mathlib.Core.Bool.{Bool, true, false, cond, true≢false}
 use mathlib.Core.List.{List, [], ◌∷◌}
 use mathlib.Core.Option.{Option, none, some}
 use Rattle.std.specs.Prelude.{Result, Ok}
-use mathlib.Core.Logic.{by_cases, ⊎_elim, ◌↔◌}
+use mathlib.Core.Logic.{by_cases, ⊎_elim}
 use native.Mathlib.Omega.{arith}
 use native.Mathlib.Decide.{ℕ_discrete}
 use lib.Dec.{eqb, ltb}
@@ -25,9 +25,9 @@ use Rattle.steps.specs.InFront.{in_front}
 use Rattle.sheet.specs.declared.Head.{Head}
 use Rattle.sheet.specs.Table.{Table, row_by, row_at, eval_in}
 use Rattle.sheet.specs.declared.Refusal.{Refusal}
-use Rattle.sheet.specs.Rules.{term_rule, term_ok, refuse, refusal_of, no, judged, table_checks}
+use Rattle.sheet.specs.Rules.{term_rule, term_ok, refuse, refusal_of, no, judged, as_refusal, table_checks}
 use Rattle.sheet.specs.Sheet.{size_of, head_of, sheet_checks}
-use Rattle.sheet.proofs.Refusals.{without, judged_accepted, refused_by, accepted_by, one_place_fails, one_place_holds}
+use Rattle.sheet.proofs.Refusals.{without, judge_tells, refused_by, accepted_by, one_place_fails, one_place_holds}
 use Rattle.codec.specs.Answers.{read_of, write_checks, write_of}
 use Rattle.state.specs.declared.State.{State}
 use Rattle.state.specs.declared.StepKind.TheVariants as kind
@@ -40,7 +40,7 @@ use Rattle.verdict.specs.Verdict.{verdict_of}
 use Rattle.damage.specs.Damage.{shown_sheet}
 use Rattle.sheet_engine.specs.declared.Compacted.{Compacted}
 use Rattle.sheet_engine.specs.Answers.{verdict_answer, start_checks, start_answer, call_checks, list_checks, list_answer, standing_of, standing_checks, standing_answer, waits_answer, kind_answer, not_taken, step_answer, compact_checks, not_compacted, was_compacted, compact_answer, damage_checks, damage_answer}
-use Rattle.sheet_engine.specs.Values.{VerdictValues, verdict_values, SheetValues, sheet_values, JudgeValues, judge_values, StartValues, start_values, SizeValues, size_values, StandingValues, standing_values, StepValues, step_values, shown_by, shown, row_check, row_checks, Answers}
+use Rattle.sheet_engine.specs.Values.{VerdictValues, verdict_values, SheetValues, sheet_values, StartValues, start_values, SizeValues, size_values, StandingValues, standing_values, StepValues, step_values, shown_by, shown, row_check, row_checks, Answers}
 use Rattle.sheet_engine.proofs.Promises.{verdict_unrefused}
 use Rattle.sheet_engine.proofs.Steps.{no_kind}
 use Rattle.sheet_engine.proofs.HowItStands.{stands_rows}
@@ -70,20 +70,12 @@ pub read_answers : (s : List ℕ) → Answers (λ (v : SheetValues). v.refusal) 
 unfolding read_of without
 read_answers s = rw (checked_map sheet_values no (Ok (head_of s)) (sheet_checks s)) (answers _ _ _ (λ n p. refl) refl (sheet_checks s) refl)
 
--- judging, starting
-pub judge_answers : (t : Table) → Answers (λ (v : JudgeValues). v.refusal) (λ n p. judge_values (no n p)) (judge_values (Ok tt)) (table_checks t) (judge_values (judged t))
-unfolding judged without
-judge_answers t = rw (checked_map judge_values no (Ok tt) (table_checks t)) (answers _ _ _ (λ n p. refl) refl (table_checks t) refl)
+-- judging
+pub judge_answers : (t : Table) → Answers (λ (r : Refusal). r.number) refuse (refuse 0 0) (table_checks t) (as_refusal (judged t))
+unfolding refusal_of without
+judge_answers t = rw (judge_tells t) (answers _ _ _ (λ n p. refl) refl (table_checks t) refl)
 
--- what judging answers is the refusal of the table, and `Ok` exactly where it is accepted
-pub judge_tells : (t : Table) → refuse (judge_values (judged t)).refusal (judge_values (judged t)).place ≡ refusal_of t
-unfolding judged refusal_of
-judge_tells t = checked_map (λ (a : Result (Unit {0}) Refusal). refuse (judge_values a).refusal (judge_values a).place) no (Ok tt) (table_checks t)
-
-pub judge_accepts : (t : Table) → (judged t ≡ Ok tt) ↔ ((refusal_of t).number ≡ 0)
-unfolding judged refusal_of without
-judge_accepts t = (judged_accepted t tt, λ e. sym (accepted_by no (Ok tt) (table_checks t) refl e))
-
+-- starting
 pub begin_answers : (t : Table) (mode : ℕ) → Answers (λ (v : StartValues). v.refusal) (λ n p. start_values (no n p)) (start_values (Ok (start_of t mode))) (start_checks t mode) (start_values (start_answer t mode))
 unfolding start_answer without
 begin_answers t mode = rw (checked_map start_values no (Ok (start_of t mode)) (start_checks t mode)) (answers _ _ _ (λ n p. refl) refl (start_checks t mode) refl)

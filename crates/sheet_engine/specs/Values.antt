@@ -60,16 +60,7 @@ abbrev pub sheet_values : Result Head Refusal → SheetValues
 sheet_values (Ok h) = record { refusal = 0; place = 0; evaluation = h.evaluation; m = h.m; n = h.n; k = h.k }
 sheet_values (Err e) = record { refusal = e.number; place = e.place; evaluation = 0; m = 0; n = 0; k = 0 }
 
--- number and place of the refusal
-pub record JudgeValues : Type 0 where
-  pub refusal : ℕ
-  pub place : ℕ
-
-abbrev pub judge_values : Result (Unit {0}) Refusal → JudgeValues
-judge_values (Ok u) = record { refusal = 0; place = 0 }
-judge_values (Err e) = record { refusal = e.number; place = e.place }
-
--- number and place of the refusal; the fresh state, and beside a refusal one of zeros
+-- number and place of the refusal; the fresh state, and beside a refusal one of zeros. A judgement has number and place alone: `as_refusal` (`sheet/specs/Rules`).
 pub record StartValues : Type 0 where
   pub refusal : ℕ
   pub place : ℕ

@@ -32,11 +32,13 @@ fn rows_told(length: usize, linked: bool) -> usize {
 
 // An output of that length up to its rows, which follow.
 fn read_told(case: &mut Cases<impl Read>, length: usize, linked: bool) -> Told {
-    let refused = case.refusal();
-    if refused.0 != 0 {
-        return (refused, NOTHING);
-    }
-    (refused, counted(case.byte(), rows_told(length, linked)))
+    let (number, place) = case.refusal();
+    let said = if number == 0 {
+        counted(case.byte(), rows_told(length, linked))
+    } else {
+        NOTHING
+    };
+    ((number, place), said)
 }
 
 // The rows and, where the file has them, the link behind each, at the start of two buffers: no state waits for more than 256.
@@ -79,7 +81,7 @@ fn rooms_agree<Call: Fn(&mut [u8]) -> Told>(
 ) -> bool
     requires { Call.IsAlwaysCallable call.now }
 {
-    let rows = expected.1.x;
+    let (_, Said { x: rows, .. }) = expected;
     [room, 256, rows, rows.saturating_sub(1)]
         .iter()
         .all(|room| {

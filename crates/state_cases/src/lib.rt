@@ -8,23 +8,26 @@ use sheet::{Refusal, Table};
 use state::{State, StepKind};
 use std::io::Read;
 
-// What a step is, in three bytes, and the state after it; where the number of a refusal stands, the state is as it was.
-fn read_told(case: &mut Cases<impl Read>, s: State) -> (Told<Said>, State) {
-    let refused = case.refusal();
-    if refused.0 != 0 {
-        return ((refused, NOTHING), s);
-    }
-    let said = Said {
-        word: case.byte(),
-        x: case.byte() as usize,
-        y: case.byte() as usize,
+// What a step is, in three bytes, where nothing is refused.
+fn read_told(case: &mut Cases<impl Read>) -> Told<Said> {
+    let (number, place) = case.refusal();
+    let said = if number == 0 {
+        Said {
+            word: case.byte(),
+            x: case.byte() as usize,
+            y: case.byte() as usize,
+        }
+    } else {
+        NOTHING
     };
-    ((refused, said), case.state())
+    ((number, place), said)
 }
 
 // Asking for the kind of a step, taking it, and taking it on a lent record answer alike.
 fn step_agrees(case: &mut Cases<impl Read>, s: State, t: Table, row: usize) -> bool {
-    let (expected, after) = read_told(case, s);
+    let expected = read_told(case);
+    let ((number, _), _) = expected;
+    let after = case.state_after(number, s);
     let answered = |answer: Result<StepKind, Refusal>| told(answer.map(step_said), NOTHING)
         == expected;
     let left = |next: Stepped| answered(next.answer) & same_state(next.state, after);

@@ -56,15 +56,14 @@ fn written_agrees(out: &[u8], size: usize, t: Table) -> bool {
 
 // Whether a call that answers something is refused as it has to be.
 fn refused_alike<T: Drop>(answer: Result<T, Refusal>, expected: Refused) -> bool {
-    let (refused, ()) = told(answer.map(|_| ()), ());
-    refused == expected
+    told(answer.map(|_| ()), ()) == (expected, ())
 }
 
 // Judging, the verdict and starting answer what writing does, but that a short buffer is no fault of the table; what was written is read back.
 fn others_agree(answer: Result<usize, Refusal>, out: &[u8], t: Table) -> bool {
-    let expected = match told(answer, 0).0 {
-        (12, _) => (0, 0),
-        refused => refused,
+    let expected = match told(answer, 0) {
+        ((12, _), _) => (0, 0),
+        (refused, _) => refused,
     };
     let judged = sheet_engine::judge_table(&t);
     let verdict = sheet_engine::give_verdict(&t);
